@@ -1,0 +1,3 @@
+pub mod Adopts
+pub mod Answers
+pub mod Stores
