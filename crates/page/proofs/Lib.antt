@@ -1,0 +1,4 @@
+pub mod Adoption
+pub mod Digits
+pub mod Rows
+pub mod Written

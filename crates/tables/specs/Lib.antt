@@ -1,0 +1,2 @@
+pub mod LineTables
+pub mod Tables
