@@ -1,0 +1,10 @@
+pub mod Syntax
+pub mod Quantifiers
+pub mod Derivations
+pub mod Tries
+pub mod Laws
+pub mod Statements
+pub mod Names
+pub mod Meaning
+pub mod Follows
+pub mod Faults
