@@ -1,0 +1,13 @@
+pub mod Columns
+pub mod Copies
+pub mod Dispatch
+pub mod Following
+pub mod Founded
+pub mod Passing
+pub mod Reading
+pub mod References
+pub mod Sessions
+pub mod Sounds
+pub mod Spelling
+pub mod Verdicts
+pub mod Walks

@@ -1,0 +1,4 @@
+pub mod Checked
+pub mod Decide
+pub mod Indexes
+pub mod Ready
