@@ -1,0 +1,4 @@
+mod Adopting
+mod Columns
+mod Counts
+mod Texts
