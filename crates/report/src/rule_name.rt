@@ -9,7 +9,7 @@ pub enum RuleName {
     LeastBound,
 }
 
-pub fn rule_text(rule: RuleName) -> &'static str
+pub(crate) fn rule_text(rule: RuleName) -> &'static str
     ensures { λ r. ⌜ now r ≡ rule-text rule ⌝ }
 {
     match rule {

@@ -4,7 +4,7 @@ ghost use Rattle.report.specs.Verdicts.{between, coded-between};
 ghost use mathlib.Core.Path.{_≡_};
 use lines::LineStore;
 
-pub fn tally<S: LineStore>(store: &S, low: u8, high: u8) -> u16
+pub(crate) fn tally<S: LineStore>(store: &S, low: u8, high: u8) -> u16
     ensures { λ r. ⌜ r ≡ coded-between low high (lines (now (store .entry))) ⌝ }
 {
     let mut found = 0;
