@@ -8,6 +8,7 @@
 // rule: 0 for EqualBounds, any other number for LeastBound.
 // The result is answer * 2^40 + place * 2^8 + cause: the answer is 0 for a sound listing, 13 for an unsound one, and 14 for a page with a
 // place out of form or more than 65,535 lines. check_page leaves the bytes as they were; of the records check_table promises nothing.
+#![tactic(auto)]
 
 ghost use Rattle.std.specs.Prelude.{◌≡◌, ◌≤◌};
 ghost use Rattle.boundary.specs.Packed.{packed, numbered_rule, OnPage, OnTable};

@@ -7,7 +7,7 @@ use lines::{Line, code};
 use rules::{AllCode, Quantifier};
 
 pub(crate) fn known<Q: Quantifier>(c: u8) -> bool
-    ensures { result ≡ known rule c }
+    ensures { result ≡ known Q.rule c }
 {
     match c {
         code::SUB_ALL_EQUAL => Q::admits(AllCode::Equal),

@@ -11,7 +11,7 @@ use std::alloc::{AllocError, Global};
 use tables::LineTable;
 
 pub(crate) fn copied<S: LineStore>(s: &S, heap: Global) -> Result<Vec<Line>, AllocError>
-    ensures { IfOk result (λ v. v.items ≡ S.LineStore.lines s.now) }
+    ensures { IfOk result (λ v. v.items ≡ S.lines s.now) }
 {
     let count = s.count();
     let mut all = Vec::with_capacity(heap, count as usize)?;
@@ -23,7 +23,7 @@ pub(crate) fn copied<S: LineStore>(s: &S, heap: Global) -> Result<Vec<Line>, All
 
 pub(crate) fn check_records<Q: Quantifier>(records: &mut [Line], heap: Global) -> Answer
     requires { length records.old ≤ 65535 }
-    ensures { Checked Q.Quantifier.rule records.old result }
+    ensures { Checked Q.rule records.old result }
 {
     let n = records.len();
     let mut table = LineTable::new(records);

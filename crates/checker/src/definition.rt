@@ -14,7 +14,7 @@ pub(crate) struct Session {
 }
 
 pub(crate) fn define_type<S: LineStore>(s: &S, n: u16, session: Session, l: Line) -> bool
-    ensures { result ≡ define_type (earlier (lines s.now) n) session.latest session.env l }
+    ensures { result ≡ define_type (earlier (S.lines s.now) n) session.latest session.env l }
 {
     session.env != 0
         && l.c6 == session.latest
@@ -23,7 +23,7 @@ pub(crate) fn define_type<S: LineStore>(s: &S, n: u16, session: Session, l: Line
 }
 
 pub(crate) fn define_term<S: LineStore>(s: &S, n: u16, session: Session, l: Line) -> bool
-    ensures { result ≡ define_term (earlier (lines s.now) n) session.latest session.env l }
+    ensures { result ≡ define_term (earlier (S.lines s.now) n) session.latest session.env l }
 {
     session.env != 0
         && l.c6 == session.latest

@@ -21,7 +21,7 @@ fn numbered_variable(variable: u8, l: Line) -> bool
 }
 
 pub(crate) fn follows<S: LineStore>(s: &S, n: u16, session: Session, l: Line) -> bool
-    ensures { result ≡ follows (earlier (lines s.now) n) session.latest session.env l }
+    ensures { result ≡ follows (earlier (S.lines s.now) n) session.latest session.env l }
 {
     match l.code {
         code::TYPE_TOP..=code::TYPE_REC => numbered_variable(code::TYPE_VAR, l),

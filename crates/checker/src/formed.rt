@@ -8,7 +8,7 @@ use crate::premise::{binds_type, bound_is, is_env, is_type, line};
 use lines::{Line, LineStore, code};
 
 pub(crate) fn env<S: LineStore>(s: &S, n: u16, l: Line) -> bool
-    ensures { result ≡ env (earlier (lines s.now) n) l }
+    ensures { result ≡ env (earlier (S.lines s.now) n) l }
 {
     let e = line(s, n, l.c1);
     match e.code {
@@ -20,33 +20,33 @@ pub(crate) fn env<S: LineStore>(s: &S, n: u16, l: Line) -> bool
 }
 
 fn type_top<S: LineStore>(s: &S, n: u16, l: Line) -> bool
-    ensures { result ≡ type_top (earlier (lines s.now) n) l }
+    ensures { result ≡ type_top (earlier (S.lines s.now) n) l }
 {
     is_env(s, n, l.c3, l.c1) && l.c4 == 0
 }
 
 fn type_var<S: LineStore>(s: &S, n: u16, k: u16, l: Line) -> bool
-    ensures { result ≡ type_var (earlier (lines s.now) n) k l }
+    ensures { result ≡ type_var (earlier (S.lines s.now) n) k l }
 {
     let bound = line(s, n, l.c4).c3;
     is_env(s, n, l.c3, l.c1) && bound_is(s, n, l.c4, l.c1, k, bound)
 }
 
 fn type_arrow<S: LineStore>(s: &S, n: u16, a: Line, l: Line) -> bool
-    ensures { result ≡ type_arrow (earlier (lines s.now) n) a l }
+    ensures { result ≡ type_arrow (earlier (S.lines s.now) n) a l }
 {
     is_type(s, n, l.c3, l.c1, a.c1) && is_type(s, n, l.c4, l.c1, a.c2)
 }
 
 fn type_all<S: LineStore>(s: &S, n: u16, a: Line, l: Line) -> bool
-    ensures { result ≡ type_all (earlier (lines s.now) n) a l }
+    ensures { result ≡ type_all (earlier (S.lines s.now) n) a l }
 {
     let f = line(s, n, l.c3).c1;
     is_type(s, n, l.c3, f, a.c2) && binds_type(s, n, f, l.c1, a.c1) && l.c4 == 0
 }
 
 fn type_rec<S: LineStore>(s: &S, n: u16, a: Line, l: Line) -> bool
-    ensures { result ≡ type_rec (earlier (lines s.now) n) a l }
+    ensures { result ≡ type_rec (earlier (S.lines s.now) n) a l }
 {
     let f = line(s, n, l.c3).c1;
     let t = line(s, n, f).c2;
@@ -57,7 +57,7 @@ fn type_rec<S: LineStore>(s: &S, n: u16, a: Line, l: Line) -> bool
 }
 
 pub(crate) fn formed<S: LineStore>(s: &S, n: u16, l: Line) -> bool
-    ensures { result ≡ formed (earlier (lines s.now) n) l }
+    ensures { result ≡ formed (earlier (S.lines s.now) n) l }
 {
     let a = line(s, n, l.c2);
     match a.code {

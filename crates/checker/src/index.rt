@@ -56,9 +56,9 @@ impl Hashed {
 
     // Whether l stands among the first n lines.
     fn holds<S: LineStore>(&self, s: &S, n: u16, l: Line) -> bool
-        requires within { n ≤ length (lines s.now) }
-        requires indexed { Indexed (lines s.now) n (vec_len self.now.heads) self.now.heads.items self.now.next.items }
-        ensures { Repeats (take n (lines s.now)) l result }
+        requires within { n ≤ length (S.lines s.now) }
+        requires indexed { Indexed (S.lines s.now) n (vec_len self.now.heads) self.now.heads.items self.now.next.items }
+        ensures { Repeats (take n (S.lines s.now)) l result }
     {
         let mut m = self.heads[self.slot_of(l)];
         while m != 0 {
@@ -88,8 +88,8 @@ impl Hashed {
 
 // Whether l stands among the first n lines, by reading them all.
 fn scan<S: LineStore>(s: &S, n: u16, l: Line) -> bool
-    requires { n ≤ length (lines s.now) }
-    ensures { Repeats (take n (lines s.now)) l result }
+    requires { n ≤ length (S.lines s.now) }
+    ensures { Repeats (take n (S.lines s.now)) l result }
 {
     for m in 0..n {
         if same(line(s, n, m + 1), l) {
@@ -119,9 +119,9 @@ impl Index {
 
     // Whether l stands among the first n lines.
     pub(crate) fn repeats<S: LineStore>(&self, s: &S, n: u16, l: Line) -> bool
-        requires within { n ≤ length (lines s.now) }
-        requires ready { (count : ℕ) × Ready (lines s.now) n count self.now }
-        ensures { Repeats (take n (lines s.now)) l result }
+        requires within { n ≤ length (S.lines s.now) }
+        requires ready { (count : ℕ) × Ready (S.lines s.now) n count self.now }
+        ensures { Repeats (take n (S.lines s.now)) l result }
     {
         match self {
             Index::Hashed(hashed) => hashed.holds(s, n, l),

@@ -4,6 +4,7 @@
 //                                   else Unsound(line, cause): the first line at fault and the first cause that holds of it.
 //                                   It asks nothing, answers whatever stands in the store, and changes nothing. Memory from the heap
 //                                   makes it faster; where it is refused the answer is the same.
+#![tactic(auto)]
 
 ghost use Rattle.checker.specs.Checked.{Checked};
 
@@ -30,7 +31,7 @@ mod typed;
 mod variable;
 
 pub fn check<Q: Quantifier, S: LineStore>(store: &S, heap: Global) -> Answer
-    ensures { Checked Q.Quantifier.rule (S.LineStore.lines store.now) result }
+    ensures { Checked Q.rule (S.lines store.now) result }
 {
     match copied(store, heap) {
         Ok(mut records) => check_records::<Q>(&mut records, heap),

@@ -23,9 +23,9 @@ fn fault<Q: Quantifier, S: LineStore>(
     session: Session,
     l: Line,
 ) -> Option<Cause>
-    requires within { n ≤ length (S.LineStore.lines s.now) }
-    requires ready { (count : ℕ) × Ready (S.LineStore.lines s.now) n count index.now }
-    ensures { Tested Q.Quantifier.rule (take n (S.LineStore.lines s.now)) session.latest session.env l result }
+    requires within { n ≤ length (S.lines s.now) }
+    requires ready { (count : ℕ) × Ready (S.lines s.now) n count index.now }
+    ensures { Tested Q.rule (take n (S.lines s.now)) session.latest session.env l result }
 {
     if !known::<Q>(l.code) {
         return Some(Cause::Code);
@@ -64,7 +64,7 @@ fn session_after(session: Session, n: u16, l: Line) -> Session
 }
 
 pub(crate) fn check_lines<Q: Quantifier, S: LineStore>(s: &S, heap: Global) -> Answer
-    ensures { Checked Q.Quantifier.rule (S.LineStore.lines s.now) result }
+    ensures { Checked Q.rule (S.lines s.now) result }
 {
     let count = s.count();
     let mut index = Index::new(heap, count);

@@ -20,7 +20,7 @@ fn put_top(l: Line) -> bool
 }
 
 fn put_var<S: LineStore>(s: &S, n: u16, k: u16, l: Line) -> bool
-    ensures { result ≡ put_var (earlier (lines s.now) n) k l }
+    ensures { result ≡ put_var (earlier (S.lines s.now) n) k l }
 {
     if !no_premises(l) {
         return false;
@@ -36,7 +36,7 @@ fn put_var<S: LineStore>(s: &S, n: u16, k: u16, l: Line) -> bool
 }
 
 fn put_arrow<S: LineStore>(s: &S, n: u16, b: Line, l: Line) -> bool
-    ensures { result ≡ put_arrow (earlier (lines s.now) n) b l }
+    ensures { result ≡ put_arrow (earlier (S.lines s.now) n) b l }
 {
     let c = line(s, n, l.c4);
     let j = l.c2 as u32;
@@ -47,7 +47,7 @@ fn put_arrow<S: LineStore>(s: &S, n: u16, b: Line, l: Line) -> bool
 }
 
 fn put_all<S: LineStore>(s: &S, n: u16, b: Line, l: Line) -> bool
-    ensures { result ≡ put_all (earlier (lines s.now) n) b l }
+    ensures { result ≡ put_all (earlier (S.lines s.now) n) b l }
 {
     let c = line(s, n, l.c4);
     let raised = line(s, n, l.c6).c3;
@@ -59,7 +59,7 @@ fn put_all<S: LineStore>(s: &S, n: u16, b: Line, l: Line) -> bool
 }
 
 fn put_rec<S: LineStore>(s: &S, n: u16, b: Line, l: Line) -> bool
-    ensures { result ≡ put_rec (earlier (lines s.now) n) b l }
+    ensures { result ≡ put_rec (earlier (S.lines s.now) n) b l }
 {
     let c = line(s, n, l.c4);
     let raised = line(s, n, l.c5).c3;
@@ -71,7 +71,7 @@ fn put_rec<S: LineStore>(s: &S, n: u16, b: Line, l: Line) -> bool
 }
 
 pub(crate) fn put<S: LineStore>(s: &S, n: u16, l: Line) -> bool
-    ensures { result ≡ put (earlier (lines s.now) n) l }
+    ensures { result ≡ put (earlier (S.lines s.now) n) l }
 {
     let b = line(s, n, l.c1);
     match b.code {

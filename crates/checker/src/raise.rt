@@ -13,7 +13,7 @@ fn raise_top(l: Line) -> bool
 }
 
 fn raise_var<S: LineStore>(s: &S, n: u16, k: u16, l: Line) -> bool
-    ensures { result ≡ raise_var (earlier (lines s.now) n) k l }
+    ensures { result ≡ raise_var (earlier (S.lines s.now) n) k l }
 {
     if l.c4 != 0 || l.c5 != 0 {
         return false;
@@ -26,7 +26,7 @@ fn raise_var<S: LineStore>(s: &S, n: u16, k: u16, l: Line) -> bool
 }
 
 fn raise_arrow<S: LineStore>(s: &S, n: u16, a: Line, l: Line) -> bool
-    ensures { result ≡ raise_arrow (earlier (lines s.now) n) a l }
+    ensures { result ≡ raise_arrow (earlier (S.lines s.now) n) a l }
 {
     let c = line(s, n, l.c3);
     let j = l.c2 as u32;
@@ -36,7 +36,7 @@ fn raise_arrow<S: LineStore>(s: &S, n: u16, a: Line, l: Line) -> bool
 }
 
 fn raise_all<S: LineStore>(s: &S, n: u16, a: Line, l: Line) -> bool
-    ensures { result ≡ raise_all (earlier (lines s.now) n) a l }
+    ensures { result ≡ raise_all (earlier (S.lines s.now) n) a l }
 {
     let c = line(s, n, l.c3);
     let j = l.c2 as u32;
@@ -46,7 +46,7 @@ fn raise_all<S: LineStore>(s: &S, n: u16, a: Line, l: Line) -> bool
 }
 
 fn raise_rec<S: LineStore>(s: &S, n: u16, a: Line, l: Line) -> bool
-    ensures { result ≡ raise_rec (earlier (lines s.now) n) a l }
+    ensures { result ≡ raise_rec (earlier (S.lines s.now) n) a l }
 {
     let c = line(s, n, l.c3);
     let j = l.c2 as u32;
@@ -54,7 +54,7 @@ fn raise_rec<S: LineStore>(s: &S, n: u16, a: Line, l: Line) -> bool
 }
 
 pub(crate) fn raise<S: LineStore>(s: &S, n: u16, l: Line) -> bool
-    ensures { result ≡ raise (earlier (lines s.now) n) l }
+    ensures { result ≡ raise (earlier (S.lines s.now) n) l }
 {
     let a = line(s, n, l.c1);
     match a.code {

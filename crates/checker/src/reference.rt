@@ -7,50 +7,50 @@ use crate::premise::line;
 use lines::{Line, LineStore, code};
 
 fn is_kind<S: LineStore>(s: &S, n: u16, low: u8, high: u8, m: u16) -> bool
-    ensures { result ≡ is_kind (earlier (lines s.now) n) low high m }
+    ensures { result ≡ is_kind (earlier (S.lines s.now) n) low high m }
 {
     let c = line(s, n, m).code;
     low <= c && c <= high
 }
 
 fn a_type<S: LineStore>(s: &S, n: u16, m: u16) -> bool
-    ensures { result ≡ a_type (earlier (lines s.now) n) m }
+    ensures { result ≡ a_type (earlier (S.lines s.now) n) m }
 {
     is_kind(s, n, code::TYPE_TOP, code::TYPE_REC, m)
 }
 
 fn a_term<S: LineStore>(s: &S, n: u16, m: u16) -> bool
-    ensures { result ≡ a_term (earlier (lines s.now) n) m }
+    ensures { result ≡ a_term (earlier (S.lines s.now) n) m }
 {
     is_kind(s, n, code::TERM_TOP, code::TERM_REC, m)
 }
 
 fn an_env<S: LineStore>(s: &S, n: u16, m: u16) -> bool
-    ensures { result ≡ an_env (earlier (lines s.now) n) m }
+    ensures { result ≡ an_env (earlier (S.lines s.now) n) m }
 {
     is_kind(s, n, code::ENV_EMPTY, code::ENV_TYPE, m)
 }
 
 fn a_name<S: LineStore>(s: &S, n: u16, m: u16) -> bool
-    ensures { result ≡ a_name (earlier (lines s.now) n) m }
+    ensures { result ≡ a_name (earlier (S.lines s.now) n) m }
 {
     is_kind(s, n, code::NAME, code::NAME, m)
 }
 
 fn a_premise<S: LineStore>(s: &S, n: u16, m: u16) -> bool
-    ensures { result ≡ a_premise (earlier (lines s.now) n) m }
+    ensures { result ≡ a_premise (earlier (S.lines s.now) n) m }
 {
     m == 0 || is_kind(s, n, code::RAISE, code::HAS_REC, m)
 }
 
 fn a_definition<S: LineStore>(s: &S, n: u16, m: u16) -> bool
-    ensures { result ≡ a_definition (earlier (lines s.now) n) m }
+    ensures { result ≡ a_definition (earlier (S.lines s.now) n) m }
 {
     m == 0 || is_kind(s, n, code::LET_TYPE, code::LET_TERM, m)
 }
 
 fn type_named<S: LineStore>(s: &S, n: u16, l: Line) -> bool
-    ensures { result ≡ type_named (earlier (lines s.now) n) l }
+    ensures { result ≡ type_named (earlier (S.lines s.now) n) l }
 {
     match l.code {
         code::TYPE_ARROW..=code::TYPE_ALL => a_type(s, n, l.c1) && a_type(s, n, l.c2),
@@ -60,7 +60,7 @@ fn type_named<S: LineStore>(s: &S, n: u16, l: Line) -> bool
 }
 
 fn term_named<S: LineStore>(s: &S, n: u16, l: Line) -> bool
-    ensures { result ≡ term_named (earlier (lines s.now) n) l }
+    ensures { result ≡ term_named (earlier (S.lines s.now) n) l }
 {
     match l.code {
         code::TERM_FUN => a_type(s, n, l.c1) && a_term(s, n, l.c2),
@@ -75,7 +75,7 @@ fn term_named<S: LineStore>(s: &S, n: u16, l: Line) -> bool
 }
 
 fn env_named<S: LineStore>(s: &S, n: u16, l: Line) -> bool
-    ensures { result ≡ env_named (earlier (lines s.now) n) l }
+    ensures { result ≡ env_named (earlier (S.lines s.now) n) l }
 {
     match l.code {
         code::ENV_TERM..=code::ENV_TYPE => an_env(s, n, l.c1) && a_type(s, n, l.c2),
@@ -84,13 +84,13 @@ fn env_named<S: LineStore>(s: &S, n: u16, l: Line) -> bool
 }
 
 fn raise_named<S: LineStore>(s: &S, n: u16, l: Line) -> bool
-    ensures { result ≡ raise_named (earlier (lines s.now) n) l }
+    ensures { result ≡ raise_named (earlier (S.lines s.now) n) l }
 {
     a_type(s, n, l.c1) && a_type(s, n, l.c3) && a_premise(s, n, l.c4) && a_premise(s, n, l.c5)
 }
 
 fn put_named<S: LineStore>(s: &S, n: u16, l: Line) -> bool
-    ensures { result ≡ put_named (earlier (lines s.now) n) l }
+    ensures { result ≡ put_named (earlier (S.lines s.now) n) l }
 {
     a_type(s, n, l.c1)
         && a_type(s, n, l.c3)
@@ -101,19 +101,19 @@ fn put_named<S: LineStore>(s: &S, n: u16, l: Line) -> bool
 }
 
 fn variable_named<S: LineStore>(s: &S, n: u16, l: Line) -> bool
-    ensures { result ≡ variable_named (earlier (lines s.now) n) l }
+    ensures { result ≡ variable_named (earlier (S.lines s.now) n) l }
 {
     an_env(s, n, l.c1) && a_type(s, n, l.c3) && a_premise(s, n, l.c4) && a_premise(s, n, l.c5)
 }
 
 fn formed_named<S: LineStore>(s: &S, n: u16, l: Line) -> bool
-    ensures { result ≡ formed_named (earlier (lines s.now) n) l }
+    ensures { result ≡ formed_named (earlier (S.lines s.now) n) l }
 {
     an_env(s, n, l.c1) && a_type(s, n, l.c2) && a_premise(s, n, l.c3) && a_premise(s, n, l.c4)
 }
 
 fn subtype_named<S: LineStore>(s: &S, n: u16, l: Line) -> bool
-    ensures { result ≡ subtype_named (earlier (lines s.now) n) l }
+    ensures { result ≡ subtype_named (earlier (S.lines s.now) n) l }
 {
     an_env(s, n, l.c1)
         && a_type(s, n, l.c2)
@@ -123,7 +123,7 @@ fn subtype_named<S: LineStore>(s: &S, n: u16, l: Line) -> bool
 }
 
 fn typed_named<S: LineStore>(s: &S, n: u16, l: Line) -> bool
-    ensures { result ≡ typed_named (earlier (lines s.now) n) l }
+    ensures { result ≡ typed_named (earlier (S.lines s.now) n) l }
 {
     an_env(s, n, l.c1)
         && a_term(s, n, l.c2)
@@ -134,7 +134,7 @@ fn typed_named<S: LineStore>(s: &S, n: u16, l: Line) -> bool
 }
 
 fn let_type_named<S: LineStore>(s: &S, n: u16, l: Line) -> bool
-    ensures { result ≡ let_type_named (earlier (lines s.now) n) l }
+    ensures { result ≡ let_type_named (earlier (S.lines s.now) n) l }
 {
     a_name(s, n, l.c1)
         && a_type(s, n, l.c2)
@@ -145,7 +145,7 @@ fn let_type_named<S: LineStore>(s: &S, n: u16, l: Line) -> bool
 }
 
 fn let_term_named<S: LineStore>(s: &S, n: u16, l: Line) -> bool
-    ensures { result ≡ let_term_named (earlier (lines s.now) n) l }
+    ensures { result ≡ let_term_named (earlier (S.lines s.now) n) l }
 {
     a_name(s, n, l.c1)
         && a_type(s, n, l.c2)
@@ -156,7 +156,7 @@ fn let_term_named<S: LineStore>(s: &S, n: u16, l: Line) -> bool
 }
 
 pub(crate) fn named<S: LineStore>(s: &S, n: u16, l: Line) -> bool
-    ensures { result ≡ named (earlier (lines s.now) n) l }
+    ensures { result ≡ named (earlier (S.lines s.now) n) l }
 {
     match l.code {
         code::TYPE_TOP..=code::TYPE_REC => type_named(s, n, l),

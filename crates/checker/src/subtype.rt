@@ -7,33 +7,33 @@ use crate::premise::{binds_type, bound_is, is_env, is_sub, is_type, line};
 use lines::{Line, LineStore, code};
 
 fn sub_refl<S: LineStore>(s: &S, n: u16, l: Line) -> bool
-    ensures { result ≡ sub_refl (earlier (lines s.now) n) l }
+    ensures { result ≡ sub_refl (earlier (S.lines s.now) n) l }
 {
     l.c2 == l.c3 && is_type(s, n, l.c4, l.c1, l.c2) && l.c5 == 0
 }
 
 fn sub_trans<S: LineStore>(s: &S, n: u16, l: Line) -> bool
-    ensures { result ≡ sub_trans (earlier (lines s.now) n) l }
+    ensures { result ≡ sub_trans (earlier (S.lines s.now) n) l }
 {
     let middle = line(s, n, l.c4).c3;
     is_sub(s, n, l.c4, l.c1, l.c2, middle) && is_sub(s, n, l.c5, l.c1, middle, l.c3)
 }
 
 fn sub_var<S: LineStore>(s: &S, n: u16, l: Line) -> bool
-    ensures { result ≡ sub_var (earlier (lines s.now) n) l }
+    ensures { result ≡ sub_var (earlier (S.lines s.now) n) l }
 {
     let a = line(s, n, l.c2);
     a.code == code::TYPE_VAR && is_env(s, n, l.c4, l.c1) && bound_is(s, n, l.c5, l.c1, a.c1, l.c3)
 }
 
 fn sub_top<S: LineStore>(s: &S, n: u16, l: Line) -> bool
-    ensures { result ≡ sub_top (earlier (lines s.now) n) l }
+    ensures { result ≡ sub_top (earlier (S.lines s.now) n) l }
 {
     line(s, n, l.c3).code == code::TYPE_TOP && is_type(s, n, l.c4, l.c1, l.c2) && l.c5 == 0
 }
 
 fn sub_arrow<S: LineStore>(s: &S, n: u16, l: Line) -> bool
-    ensures { result ≡ sub_arrow (earlier (lines s.now) n) l }
+    ensures { result ≡ sub_arrow (earlier (S.lines s.now) n) l }
 {
     let a = line(s, n, l.c2);
     let b = line(s, n, l.c3);
@@ -44,7 +44,7 @@ fn sub_arrow<S: LineStore>(s: &S, n: u16, l: Line) -> bool
 }
 
 fn sub_all_equal<S: LineStore>(s: &S, n: u16, l: Line) -> bool
-    ensures { result ≡ sub_all_equal (earlier (lines s.now) n) l }
+    ensures { result ≡ sub_all_equal (earlier (S.lines s.now) n) l }
 {
     let a = line(s, n, l.c2);
     let b = line(s, n, l.c3);
@@ -58,7 +58,7 @@ fn sub_all_equal<S: LineStore>(s: &S, n: u16, l: Line) -> bool
 }
 
 fn sub_all_least<S: LineStore>(s: &S, n: u16, l: Line) -> bool
-    ensures { result ≡ sub_all_least (earlier (lines s.now) n) l }
+    ensures { result ≡ sub_all_least (earlier (S.lines s.now) n) l }
 {
     let a = line(s, n, l.c2);
     let b = line(s, n, l.c3);
@@ -71,7 +71,7 @@ fn sub_all_least<S: LineStore>(s: &S, n: u16, l: Line) -> bool
 }
 
 pub(crate) fn subtype<S: LineStore>(s: &S, n: u16, l: Line) -> bool
-    ensures { result ≡ subtype (earlier (lines s.now) n) l }
+    ensures { result ≡ subtype (earlier (S.lines s.now) n) l }
 {
     match l.code {
         code::SUB_REFL => sub_refl(s, n, l),

@@ -7,14 +7,14 @@ use crate::premise::{binds_term, binds_type, has_type, is_env, is_sub, line, put
 use lines::{Line, LineStore, code};
 
 fn has_subsumed<S: LineStore>(s: &S, n: u16, l: Line) -> bool
-    ensures { result ≡ has_subsumed (earlier (lines s.now) n) l }
+    ensures { result ≡ has_subsumed (earlier (S.lines s.now) n) l }
 {
     let below = line(s, n, l.c4).c3;
     has_type(s, n, l.c4, l.c1, l.c2, below) && is_sub(s, n, l.c5, l.c1, below, l.c3) && l.c6 == 0
 }
 
 fn has_var<S: LineStore>(s: &S, n: u16, l: Line) -> bool
-    ensures { result ≡ has_var (earlier (lines s.now) n) l }
+    ensures { result ≡ has_var (earlier (S.lines s.now) n) l }
 {
     let a = line(s, n, l.c2);
     a.code == code::TERM_VAR
@@ -24,7 +24,7 @@ fn has_var<S: LineStore>(s: &S, n: u16, l: Line) -> bool
 }
 
 fn has_top<S: LineStore>(s: &S, n: u16, l: Line) -> bool
-    ensures { result ≡ has_top (earlier (lines s.now) n) l }
+    ensures { result ≡ has_top (earlier (S.lines s.now) n) l }
 {
     line(s, n, l.c2).code == code::TERM_TOP
         && line(s, n, l.c3).code == code::TYPE_TOP
@@ -34,7 +34,7 @@ fn has_top<S: LineStore>(s: &S, n: u16, l: Line) -> bool
 }
 
 fn has_fun<S: LineStore>(s: &S, n: u16, l: Line) -> bool
-    ensures { result ≡ has_fun (earlier (lines s.now) n) l }
+    ensures { result ≡ has_fun (earlier (S.lines s.now) n) l }
 {
     let a = line(s, n, l.c2);
     let t = line(s, n, l.c3);
@@ -49,7 +49,7 @@ fn has_fun<S: LineStore>(s: &S, n: u16, l: Line) -> bool
 }
 
 fn has_appl<S: LineStore>(s: &S, n: u16, l: Line) -> bool
-    ensures { result ≡ has_appl (earlier (lines s.now) n) l }
+    ensures { result ≡ has_appl (earlier (S.lines s.now) n) l }
 {
     let a = line(s, n, l.c2);
     let function = line(s, n, l.c4).c3;
@@ -63,7 +63,7 @@ fn has_appl<S: LineStore>(s: &S, n: u16, l: Line) -> bool
 }
 
 fn has_fun2<S: LineStore>(s: &S, n: u16, l: Line) -> bool
-    ensures { result ≡ has_fun2 (earlier (lines s.now) n) l }
+    ensures { result ≡ has_fun2 (earlier (S.lines s.now) n) l }
 {
     let a = line(s, n, l.c2);
     let t = line(s, n, l.c3);
@@ -78,7 +78,7 @@ fn has_fun2<S: LineStore>(s: &S, n: u16, l: Line) -> bool
 }
 
 fn has_appl2<S: LineStore>(s: &S, n: u16, l: Line) -> bool
-    ensures { result ≡ has_appl2 (earlier (lines s.now) n) l }
+    ensures { result ≡ has_appl2 (earlier (S.lines s.now) n) l }
 {
     let a = line(s, n, l.c2);
     let function = line(s, n, l.c4).c3;
@@ -91,7 +91,7 @@ fn has_appl2<S: LineStore>(s: &S, n: u16, l: Line) -> bool
 }
 
 fn has_fold<S: LineStore>(s: &S, n: u16, l: Line) -> bool
-    ensures { result ≡ has_fold (earlier (lines s.now) n) l }
+    ensures { result ≡ has_fold (earlier (S.lines s.now) n) l }
 {
     let a = line(s, n, l.c2);
     let t = line(s, n, l.c3);
@@ -105,7 +105,7 @@ fn has_fold<S: LineStore>(s: &S, n: u16, l: Line) -> bool
 }
 
 fn has_unfold<S: LineStore>(s: &S, n: u16, l: Line) -> bool
-    ensures { result ≡ has_unfold (earlier (lines s.now) n) l }
+    ensures { result ≡ has_unfold (earlier (S.lines s.now) n) l }
 {
     let a = line(s, n, l.c2);
     let folded = line(s, n, l.c4).c3;
@@ -118,7 +118,7 @@ fn has_unfold<S: LineStore>(s: &S, n: u16, l: Line) -> bool
 }
 
 fn has_rec<S: LineStore>(s: &S, n: u16, l: Line) -> bool
-    ensures { result ≡ has_rec (earlier (lines s.now) n) l }
+    ensures { result ≡ has_rec (earlier (S.lines s.now) n) l }
 {
     let a = line(s, n, l.c2);
     let f = line(s, n, l.c4).c1;
@@ -131,7 +131,7 @@ fn has_rec<S: LineStore>(s: &S, n: u16, l: Line) -> bool
 }
 
 pub(crate) fn typed<S: LineStore>(s: &S, n: u16, l: Line) -> bool
-    ensures { result ≡ typed (earlier (lines s.now) n) l }
+    ensures { result ≡ typed (earlier (S.lines s.now) n) l }
 {
     match l.code {
         code::HAS_SUBSUMED => has_subsumed(s, n, l),

@@ -8,19 +8,19 @@ use crate::premise::{bound_is, line, raises, typing_is};
 use lines::{Line, LineStore, code};
 
 fn bound_past_term<S: LineStore>(s: &S, n: u16, e: Line, l: Line) -> bool
-    ensures { result ≡ bound_past_term (earlier (lines s.now) n) e l }
+    ensures { result ≡ bound_past_term (earlier (S.lines s.now) n) e l }
 {
     bound_is(s, n, l.c4, e.c1, l.c2, l.c3) && l.c5 == 0
 }
 
 fn bound_last<S: LineStore>(s: &S, n: u16, e: Line, l: Line) -> bool
-    ensures { result ≡ bound_last (earlier (lines s.now) n) e l }
+    ensures { result ≡ bound_last (earlier (S.lines s.now) n) e l }
 {
     l.c2 == 1 && raises(s, n, l.c5, e.c2, 0, l.c3)
 }
 
 fn bound_past_type<S: LineStore>(s: &S, n: u16, e: Line, l: Line) -> bool
-    ensures { result ≡ bound_past_type (earlier (lines s.now) n) e l }
+    ensures { result ≡ bound_past_type (earlier (S.lines s.now) n) e l }
 {
     let p = line(s, n, l.c4);
     p.code == code::BOUND
@@ -30,7 +30,7 @@ fn bound_past_type<S: LineStore>(s: &S, n: u16, e: Line, l: Line) -> bool
 }
 
 pub(crate) fn bound<S: LineStore>(s: &S, n: u16, l: Line) -> bool
-    ensures { result ≡ bound (earlier (lines s.now) n) l }
+    ensures { result ≡ bound (earlier (S.lines s.now) n) l }
 {
     let e = line(s, n, l.c1);
     match e.code {
@@ -48,7 +48,7 @@ fn typing_last(e: Line, l: Line) -> bool
 }
 
 fn typing_past_term<S: LineStore>(s: &S, n: u16, e: Line, l: Line) -> bool
-    ensures { result ≡ typing_past_term (earlier (lines s.now) n) e l }
+    ensures { result ≡ typing_past_term (earlier (S.lines s.now) n) e l }
 {
     let p = line(s, n, l.c4);
     p.code == code::TYPING
@@ -59,14 +59,14 @@ fn typing_past_term<S: LineStore>(s: &S, n: u16, e: Line, l: Line) -> bool
 }
 
 fn typing_past_type<S: LineStore>(s: &S, n: u16, e: Line, l: Line) -> bool
-    ensures { result ≡ typing_past_type (earlier (lines s.now) n) e l }
+    ensures { result ≡ typing_past_type (earlier (S.lines s.now) n) e l }
 {
     let unraised = line(s, n, l.c4).c3;
     typing_is(s, n, l.c4, e.c1, l.c2, unraised) && raises(s, n, l.c5, unraised, 0, l.c3)
 }
 
 pub(crate) fn typing<S: LineStore>(s: &S, n: u16, l: Line) -> bool
-    ensures { result ≡ typing (earlier (lines s.now) n) l }
+    ensures { result ≡ typing (earlier (S.lines s.now) n) l }
 {
     let e = line(s, n, l.c1);
     match e.code {

@@ -1,4 +1,5 @@
 // Examples, each proved to be safe and then run.
+#![tactic(auto)]
 
 #[cfg(test)]
 mod listings;

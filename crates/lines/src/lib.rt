@@ -11,6 +11,7 @@
 //   get(n)     line n; none if n is 0 or above the count changes nothing
 //   put(line)  adds it at the end, Ok(its number); Err, exactly when the count equals the room, changes nothing
 //   cut(n)     keeps the first n lines, or all if n is larger
+#![tactic(auto)]
 
 mod answer;
 pub mod code;

@@ -121,5 +121,5 @@ pub(crate) fn in_form(place: &[u8]) -> bool
     ensures { Decides result (InForm place.now) }
 {
     let written = encode(decode(place));
-    place == written
+    place == written.as_slice()
 }

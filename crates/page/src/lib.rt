@@ -6,6 +6,7 @@
 //              OutOfForm(p) else, p the lowest place, from 1, that is not: the lines are as they were
 //   Put writes its own place, and cut and adopt no byte. Kept true from new on: the counted places are within the room and in form.
 // encode(line) the bytes that a page has of a line: the code in 3 columns, c1 to c7 in 6 each, spaces in front, no leading zeros, byte 10
+#![tactic(auto)]
 
 mod form;
 mod page;

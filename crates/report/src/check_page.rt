@@ -39,7 +39,7 @@ pub fn verify(rule: RuleName, bytes: &mut [u8], heap: Global) -> Verdict
 }
 
 fn answer_under<S: LineStore>(rule: RuleName, store: &S, heap: Global) -> Answer
-    ensures { Checked (rule_of rule) (lines store.now) result }
+    ensures { Checked (rule_of rule) (S.lines store.now) result }
 {
     match rule {
         RuleName::EqualBounds => check::<EqualBounds, S>(store, heap),
@@ -51,8 +51,8 @@ fn answer_under<S: LineStore>(rule: RuleName, store: &S, heap: Global) -> Answer
 fn conclusion<S: LineStore>(rule: RuleName, store: &S, answer: Answer) -> Verdict
     ensures rule { result.rule ≡ rule }
     ensures answer { result.answer ≡ answer }
-    ensures judgments { result.judgments ≡ concluded 50 79 answer (lines store.now) }
-    ensures definitions { result.definitions ≡ concluded 91 92 answer (lines store.now) }
+    ensures judgments { result.judgments ≡ concluded 50 79 answer (S.lines store.now) }
+    ensures definitions { result.definitions ≡ concluded 91 92 answer (S.lines store.now) }
 {
     if answer.number() != 0 {
         return Verdict {

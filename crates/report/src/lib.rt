@@ -17,6 +17,7 @@
 // report(heap, verdict)
 //     Ok(text)             a sentence for people, and as the last line the answer's number, place and cause in 8 columns each
 //     Err                  where memory is refused
+#![tactic(auto)]
 
 mod check_page;
 mod rule_name;

@@ -6,7 +6,7 @@ ghost use Rattle.std.specs.Prelude.{◌≡◌};
 use lines::LineStore;
 
 pub(crate) fn tally<S: LineStore>(store: &S, low: u8, high: u8) -> u16
-    ensures { result ≡ coded_between low high (lines store.now) }
+    ensures { result ≡ coded_between low high (S.lines store.now) }
 {
     let mut found = 0;
     for n in 0..store.count() {

@@ -97,7 +97,7 @@ module _ (R : Rule) (G : Get) (w : WholeSound R G) where
       let (Y, b, c) = below _ _ _ _ _ h x X a in
       let (Z, b', c') = below _ _ _ _ _ i y X a in
       (arrow Y Z, TypeAt.type_at e (of_arrow b b'), TypeAt.type_at f (of_arrow c c'))
-  putted_by n below h i k (Follows.put_all_lem e f x y z) X a =
+  putted_by n below h i k (Follows.put_all e f x y z) X a =
       let (Y, b, c) = below _ _ _ _ _ h x X a in
       let (Z, b', c') = below _ _ _ _ _ k z (lift 0 X) (raised_of y a) in
       (all Y Z, TypeAt.type_at e (of_all b b'), TypeAt.type_at f (of_all c c'))

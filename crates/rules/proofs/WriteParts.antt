@@ -96,7 +96,7 @@ putting_premises lines (Follows.put_low e h) = (no_premise lines, no_premise lin
 putting_premises lines (Follows.put_here e) = (no_premise lines, no_premise lines, no_premise lines)
 putting_premises lines (Follows.put_high e h f) = (no_premise lines, no_premise lines, no_premise lines)
 putting_premises lines (Follows.put_arrow e f x y) = (puts_name lines x, puts_name lines y, no_premise lines)
-putting_premises lines (Follows.put_all_lem e f x y z) = (puts_name lines x, raises_name lines y, puts_name lines z)
+putting_premises lines (Follows.put_all e f x y z) = (puts_name lines x, raises_name lines y, puts_name lines z)
 putting_premises lines (Follows.put_rec e f x y) = (raises_name lines x, puts_name lines y, no_premise lines)
 
 -- Y stands on line b and X on line a, and a line 41 says that some line is Y with X put for variable j
@@ -145,7 +145,7 @@ write_putting (all Y Z) j l X L (TypeAt.type_at e (of_all y z)) x =
     then (put_type P (all' u.0 v.0) tt (of_all (type_on (via q i) u.2) v.2)) (λ K r w.
     let a = via o (via q (via i r)) in
     put_putting K (all Y Z) X
-    (Follows.put_all_lem (a _ _ e) w.1 (puts_on (via q (via i r)) u.3) (raises_on (via i r) t.3) (puts_on r v.3))
+    (Follows.put_all (a _ _ e) w.1 (puts_on (via q (via i r)) u.3) (raises_on (via i r) t.3) (puts_on r v.3))
     (type_on a (TypeAt.type_at e (of_all y z))) (type_on a x) w.2))))
 write_putting (rec Z) j l X L (TypeAt.type_at e (of_rec z)) x =
     then (write_raising X 0 L x) (λ M o t.

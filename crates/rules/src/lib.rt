@@ -15,6 +15,7 @@
 //     LeastBound           the right bound below the left, the bodies below one another under the right; admits 66 and 65
 //
 // All calls are total, refuse nothing and change nothing.
+#![tactic(auto)]
 
 mod all_code;
 mod equal_bounds;

@@ -15,6 +15,7 @@
 //   adopt(n)   Granted(n), if n is within the room: the first n records are the lines
 //              OutOfForm(room + 1) else: the lines are as they were
 //   Put writes its own record, and cut and adopt none. Kept true from new on: it counts no more records than its room.
+#![tactic(auto)]
 
 mod line_table;
 mod table;

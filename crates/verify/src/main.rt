@@ -3,23 +3,21 @@
 // Takes all of standard input for a page and prints the verdict on it under the rule, EqualBounds if none is named.
 // The last line has the answer, the place and the cause, right-justified in 8 columns each.
 // The status is 0 exactly if the answer is 0. What keeps it from a verdict is said on standard error, with status 1.
+#![tactic(auto)]
 
 use anyhow::anyhow;
 use report::{RuleName, report, rule_named, verify};
 use std::env;
 use std::io::Read;
+use std::process::ExitCode;
 
-// Status 1.
-#[derive(Drop)]
-struct Refused;
-
-fn main(rt: HostRuntime) -> Result<(), Refused> {
+fn main(rt: HostRuntime) -> ExitCode {
     match run(&rt) {
-        Ok(true) => Ok(()),
-        Ok(false) => Err(Refused),
+        Ok(true) => ExitCode::SUCCESS,
+        Ok(false) => ExitCode::FAILURE,
         Err(error) => {
             let _ = eprintln!(rt; "verify: {error}");
-            Err(Refused)
+            ExitCode::FAILURE
         }
     }
 }

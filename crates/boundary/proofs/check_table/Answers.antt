@@ -7,12 +7,12 @@ use Rattle.report.specs.RuleNames.{rule_of}
 pub returns-in-EqualBounds : goal.returns-in-EqualBounds
 returns-in-EqualBounds c =
     inr (
-      c.if-n-gt-MAX-ROOM.false,
+      c.if-n-gt-MAX_ROOM.false,
       (
         c.check.result,
         c.pack-in-EqualBounds.ensures,
         subst₂ (λ rule xs. Checked (rule_of rule) xs c.check.result) c.in-EqualBounds.ensures
-            (adopted_records c.new-table.result c.adopt.new.self c.args.records.now c.adopt.result c.new-table.ensures.records c.if-n-gt-MAX-ROOM.false
+            (adopted_records c.new-table.result c.adopt.new.self c.args.records.now c.adopt.result c.new-table.ensures.records c.if-n-gt-MAX_ROOM.false
             c.adopt.ensures.cases) c.check.ensures,
       ),
     )
@@ -20,12 +20,12 @@ returns-in-EqualBounds c =
 pub returns-in-LeastBound : goal.returns-in-LeastBound
 returns-in-LeastBound c =
     inr (
-      c.if-n-gt-MAX-ROOM.false,
+      c.if-n-gt-MAX_ROOM.false,
       (
         c.check-in-LeastBound.result,
         c.pack-in-LeastBound.ensures,
         subst₂ (λ rule xs. Checked (rule_of rule) xs c.check-in-LeastBound.result) c.in-LeastBound.ensures
-            (adopted_records c.new-table.result c.adopt.new.self c.args.records.now c.adopt.result c.new-table.ensures.records c.if-n-gt-MAX-ROOM.false
+            (adopted_records c.new-table.result c.adopt.new.self c.args.records.now c.adopt.result c.new-table.ensures.records c.if-n-gt-MAX_ROOM.false
             c.adopt.ensures.cases) c.check-in-LeastBound.ensures,
       ),
     )

@@ -5,6 +5,6 @@ use Rattle.checker.specs.Checked.{Checked}
 
 pub returns : goal.returns
 returns g c =
-    subst (λ xs. Checked g.Q.Quantifier.rule xs c.check-lines.result)
+    subst (λ xs. Checked g.Q.Quantifier.rule xs c.check_lines.result)
     (adopted_records c.new-table.result c.adopt.new.self c.args.records.now c.adopt.result c.new-table.ensures.records c.requires c.adopt.ensures.cases)
-    c.check-lines.ensures
+    c.check_lines.ensures

@@ -6,7 +6,7 @@ use Rattle.std.proofs.lemmas.Slice.{pushed}
 
 pub loop-n-preserved : goal.loop-n-preserved
 loop-n-preserved g c =
-    c.in-ok-push.ensures.items
+    c.in_ok-push.ensures.items
     ∙ copied_more (g.S.LineStore.lines c.args.s.now) (vec_items c.loop-n.all) c.count-count.result c.loop-n.n c.line.result
     c.loop-n-test.true c.count-count.ensures c.loop-n.invariant c.line.ensures
 

@@ -8,7 +8,7 @@ returns-in-30-to-32 g c = sym (follows_30_32 (earlier (g.S.LineStore.lines c.arg
 
 pub returns-in-20-to-28 : goal.returns-in-20-to-28
 returns-in-20-to-28 g c =
-    c.numbered-variable-in-20-to-28.ensures ∙ sym (follows_20_28 (earlier (g.S.LineStore.lines c.args.s.now) c.args.n) c.args.session.latest c.args.session.env c.args.l (omega arith) (omega arith))
+    c.numbered_variable-in-20-to-28.ensures ∙ sym (follows_20_28 (earlier (g.S.LineStore.lines c.args.s.now) c.args.n) c.args.session.latest c.args.session.env c.args.l (omega arith) (omega arith))
 
 pub returns-in-60-to-66 : goal.returns-in-60-to-66
 returns-in-60-to-66 g c =
@@ -18,28 +18,28 @@ pub returns-in-70-to-79 : goal.returns-in-70-to-79
 returns-in-70-to-79 g c =
     c.typed.ensures ∙ sym (follows_70_79 (earlier (g.S.LineStore.lines c.args.s.now) c.args.n) c.args.session.latest c.args.session.env c.args.l (omega arith) (omega arith))
 
-pub returns-in-default : goal.returns-in-default
-returns-in-default g c =
+pub returns-in_default : goal.returns-in_default
+returns-in_default g c =
     follows_other (earlier (g.S.LineStore.lines c.args.s.now) c.args.n) c.args.session.latest c.args.session.env c.args.l (search arith) (omega arith)
 
-pub returns-in-default·2 : goal.returns-in-default·2
-returns-in-default·2 g c =
+pub returns-in_default-2 : goal.returns-in_default-2
+returns-in_default-2 g c =
     follows_other (earlier (g.S.LineStore.lines c.args.s.now) c.args.n) c.args.session.latest c.args.session.env c.args.l (search arith) (omega arith)
 
-pub returns-in-default·3 : goal.returns-in-default·3
-returns-in-default·3 g c =
+pub returns-in_default-3 : goal.returns-in_default-3
+returns-in_default-3 g c =
     follows_other (earlier (g.S.LineStore.lines c.args.s.now) c.args.n) c.args.session.latest c.args.session.env c.args.l (search arith) (omega arith)
 
-pub returns-in-default·4 : goal.returns-in-default·4
-returns-in-default·4 g c =
+pub returns-in_default-4 : goal.returns-in_default-4
+returns-in_default-4 g c =
     follows_other (earlier (g.S.LineStore.lines c.args.s.now) c.args.n) c.args.session.latest c.args.session.env c.args.l (search arith) (omega arith)
 
-pub returns-in-default·5 : goal.returns-in-default·5
-returns-in-default·5 g c =
+pub returns-in_default-5 : goal.returns-in_default-5
+returns-in_default-5 g c =
     follows_other (earlier (g.S.LineStore.lines c.args.s.now) c.args.n) c.args.session.latest c.args.session.env c.args.l (search arith) (omega arith)
 
-pub returns-in-default·6 : goal.returns-in-default·6
-returns-in-default·6 g c =
+pub returns-in_default-6 : goal.returns-in_default-6
+returns-in_default-6 g c =
     follows_other (earlier (g.S.LineStore.lines c.args.s.now) c.args.n) c.args.session.latest c.args.session.env c.args.l (search arith) (omega arith)
 
 pub returns-in-10-to-14 : goal.returns-in-10-to-14

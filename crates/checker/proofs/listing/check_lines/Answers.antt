@@ -29,9 +29,9 @@ loop-n-preserved g c =
     let lines = g.S.LineStore.lines c.args.s.now in let l = c.line-l.result in let n = c.loop-n.n in
     let R = g.Q.Quantifier.rule in let d = c.loop-n.session.latest in let E = c.loop-n.session.env in let count = c.count-count.result in
     let here = line_here lines count n l c.loop-n-test.true c.count-count.ensures c.line-l.ensures in
-    let after = c.session-after-session in (
-      still_sound R lines n d E l here c.loop-n.invariant.0 c.loop-n.invariant.1 c.in-default.ensures,
-      still_tracked R lines n d E l here c.loop-n.invariant.0 c.loop-n.invariant.1 c.in-default.ensures after.result.latest after.result.env
+    let after = c.session_after-session in (
+      still_sound R lines n d E l here c.loop-n.invariant.0 c.loop-n.invariant.1 c.in_default.ensures,
+      still_tracked R lines n d E l here c.loop-n.invariant.0 c.loop-n.invariant.1 c.in_default.ensures after.result.latest after.result.env
           after.ensures.latest after.ensures.env,
       c.add.ensures lines count
           (ap (at lines) (add-one n) ∙ sym (c.line-l.ensures ∙ earlier_at lines count n c.loop-n-test.true)) c.loop-n.invariant.2,

@@ -18,23 +18,23 @@ returns-in-60-to-66 g c = c.subtype_named.ensures ∙ sym (named_60_66 (earlier 
 pub returns-in-70-to-79 : goal.returns-in-70-to-79
 returns-in-70-to-79 g c = c.typed_named.ensures ∙ sym (named_70_79 (earlier (g.S.LineStore.lines c.args.s.now) c.args.n) c.args.l (omega arith) (omega arith))
 
-pub returns-in-default : goal.returns-in-default
-returns-in-default g c = named_other (earlier (g.S.LineStore.lines c.args.s.now) c.args.n) c.args.l (search arith)
+pub returns-in_default : goal.returns-in_default
+returns-in_default g c = named_other (earlier (g.S.LineStore.lines c.args.s.now) c.args.n) c.args.l (search arith)
 
-pub returns-in-default·2 : goal.returns-in-default·2
-returns-in-default·2 g c = named_other (earlier (g.S.LineStore.lines c.args.s.now) c.args.n) c.args.l (search arith)
+pub returns-in_default-2 : goal.returns-in_default-2
+returns-in_default-2 g c = named_other (earlier (g.S.LineStore.lines c.args.s.now) c.args.n) c.args.l (search arith)
 
-pub returns-in-default·3 : goal.returns-in-default·3
-returns-in-default·3 g c = named_other (earlier (g.S.LineStore.lines c.args.s.now) c.args.n) c.args.l (search arith)
+pub returns-in_default-3 : goal.returns-in_default-3
+returns-in_default-3 g c = named_other (earlier (g.S.LineStore.lines c.args.s.now) c.args.n) c.args.l (search arith)
 
-pub returns-in-default·4 : goal.returns-in-default·4
-returns-in-default·4 g c = named_other (earlier (g.S.LineStore.lines c.args.s.now) c.args.n) c.args.l (search arith)
+pub returns-in_default-4 : goal.returns-in_default-4
+returns-in_default-4 g c = named_other (earlier (g.S.LineStore.lines c.args.s.now) c.args.n) c.args.l (search arith)
 
-pub returns-in-default·5 : goal.returns-in-default·5
-returns-in-default·5 g c = named_other (earlier (g.S.LineStore.lines c.args.s.now) c.args.n) c.args.l (search arith)
+pub returns-in_default-5 : goal.returns-in_default-5
+returns-in_default-5 g c = named_other (earlier (g.S.LineStore.lines c.args.s.now) c.args.n) c.args.l (search arith)
 
-pub returns-in-default·6 : goal.returns-in-default·6
-returns-in-default·6 g c = named_other (earlier (g.S.LineStore.lines c.args.s.now) c.args.n) c.args.l (search arith)
+pub returns-in_default-6 : goal.returns-in_default-6
+returns-in_default-6 g c = named_other (earlier (g.S.LineStore.lines c.args.s.now) c.args.n) c.args.l (search arith)
 
-pub returns-in-default·7 : goal.returns-in-default·7
-returns-in-default·7 g c = named_other (earlier (g.S.LineStore.lines c.args.s.now) c.args.n) c.args.l (search arith)
+pub returns-in_default-7 : goal.returns-in_default-7
+returns-in_default-7 g c = named_other (earlier (g.S.LineStore.lines c.args.s.now) c.args.n) c.args.l (search arith)

@@ -5,4 +5,4 @@ use Rattle.page.proofs.form.write_six.Goals as goal
 
 pub returns : goal.returns
 returns c =
-    put_mid-pasted c.args.i _ c.args.out.now _ (in_six c.args.n) (c.copy-from-slice.ensures.after ∙ c.six.ensures) (omega (arith, length-in_six c.args.n))
+    put_mid-pasted c.args.i _ c.args.out.now _ (in_six c.args.n) (c.copy_from_slice.ensures.after ∙ c.six.ensures) (omega (arith, length-in_six c.args.n))

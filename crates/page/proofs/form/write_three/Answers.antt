@@ -5,4 +5,4 @@ use Rattle.page.proofs.form.write_three.Goals as goal
 
 pub returns : goal.returns
 returns c =
-    put_mid-pasted c.args.i _ c.args.out.now _ (in_three c.args.n) (c.copy-from-slice.ensures.after ∙ c.three.ensures) (omega (arith, length-in_three c.args.n))
+    put_mid-pasted c.args.i _ c.args.out.now _ (in_three c.args.n) (c.copy_from_slice.ensures.after ∙ c.three.ensures) (omega (arith, length-in_three c.args.n))

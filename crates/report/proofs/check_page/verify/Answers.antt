@@ -9,13 +9,13 @@ pub returns-in-Granted : goal.returns-in-Granted
 returns-in-Granted c =
     let page = c.new-page.result in
     let bytes = c.new-page.ensures.bytes in
-    let n = c.div-ceil-places.result in
-    let all = places_are (text page) c.args.bytes.now n bytes c.div-ceil-places.ensures in
+    let n = c.div_ceil-places.result in
+    let all = places_are (text page) c.args.bytes.now n bytes c.div_ceil-places.ensures in
     let told = c.in-Granted.ensures.cases in
     let R = rule_of c.args.rule in
-    let a = c.answer-under-answer.result in
+    let a = c.answer_under-answer.result in
     let same = lines_are (text page) n (spaces page) all refl c.in-Granted.field-0 (standing page) (standing c.adopt.new.self) told ∙ ap listing bytes in
-    let found = checked (text page) n (spaces page) all refl c.in-Granted.field-0 (standing page) (standing c.adopt.new.self) told R a c.answer-under-answer.ensures in
+    let found = checked (text page) n (spaces page) all refl c.in-Granted.field-0 (standing page) (standing c.adopt.new.self) told R a c.answer_under-answer.ensures in
     let is = sym c.conclusion.ensures.answer in
     record {
       rule = c.conclusion.ensures.rule;
@@ -25,15 +25,15 @@ returns-in-Granted c =
       bytes = search rules;
     }
 
-pub returns-in-default : goal.returns-in-default
-returns-in-default c =
+pub returns-in_default : goal.returns-in_default
+returns-in_default c =
     let page = c.new-page.result in
     let bytes = c.new-page.ensures.bytes in
-    let all = places_are (text page) c.args.bytes.now c.div-ceil-places.result bytes c.div-ceil-places.ensures in
+    let all = places_are (text page) c.args.bytes.now c.div_ceil-places.result bytes c.div_ceil-places.ensures in
     let R = rule_of c.args.rule in
     let told =
-    refused (text page) c.div-ceil-places.result (spaces page) all refl R (standing page) (standing c.adopt.new.self) (listing c.args.bytes.now) c.adopt.result
-    c.in-default.not-Granted c.adopt.ensures.cases
+    refused (text page) c.div_ceil-places.result (spaces page) all refl R (standing page) (standing c.adopt.new.self) (listing c.args.bytes.now) c.adopt.result
+    c.in_default.not-Granted c.adopt.ensures.cases
     in
     record {
       rule = refl;

@@ -6,11 +6,11 @@ use Rattle.std.proofs.lemmas.Bool.{both_ways}
 
 pub loop-m-init : goal.loop-m-init
 loop-m-init g c =
-    let lines = g.S.LineStore.lines c.args.s.now in let v = c.args.self.now in let b = c.slot-of.ensures.value in
+    let lines = g.S.LineStore.lines c.args.s.now in let v = c.args.self.now in let b = c.slot_of.ensures.value in
     subst (λ m. Walk lines c.args.n (vec_len v.heads) c.args.l m)
     (ap (λ i. get_or (vec_items v.heads) i 0) (sym b)
-    ∙ sym (get_or_read (vec_items v.heads) c.slot-of.result c.index-m.result.now (omega (arith, c.slot-of.ensures.within, v.heads.ok.0)) c.index-m.ensures 0))
-    (walk_start lines c.args.n (vec_len v.heads) (vec_items v.heads) (vec_items v.next) c.args.l c.requires.indexed (omega (arith, b, c.slot-of.ensures.within)))
+    ∙ sym (get_or_read (vec_items v.heads) c.slot_of.result c.index-m.result.now (omega (arith, c.slot_of.ensures.within, v.heads.ok.0)) c.index-m.ensures 0))
+    (walk_start lines c.args.n (vec_len v.heads) (vec_items v.heads) (vec_items v.next) c.args.l c.requires.indexed (omega (arith, b, c.slot_of.ensures.within)))
 
 pub returns-then-same : goal.returns-then-same
 returns-then-same g c =

@@ -5,9 +5,9 @@ use Rattle.checker.specs.Indexes.{Indexed}
 
 pub returns : goal.returns
 returns c =
-    let heads = vec_items c.in-ok-heads.heads in let next = vec_items c.in-ok-next.next in (
-      c.in-ok-next.ensures.len,
+    let heads = vec_items c.in_ok-heads.heads in let next = vec_items c.in_ok-next.next in (
+      c.in_ok-next.ensures.len,
       λ lines.
-          subst (λ k. Indexed lines 0 k heads next) (sym c.in-ok-heads.ensures.len)
-          (indexed_none lines _ heads next (c.in-ok-heads.ensures.items-if-clones-equal (λ y e. e)) (omega arith)),
+          subst (λ k. Indexed lines 0 k heads next) (sym c.in_ok-heads.ensures.len)
+          (indexed_none lines _ heads next (c.in_ok-heads.ensures.items_if_clones_equal (λ y e. e)) (omega arith)),
     )

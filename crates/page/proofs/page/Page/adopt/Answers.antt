@@ -6,11 +6,11 @@ use Rattle.page.proofs.Adoption.{from_zero}
 use Rattle.page.proofs.Rows.{rows_take}
 use Rattle.page.proofs.page.Page.adopt.Goals as goal
 
-pub overflow-cast-self : goal.overflow-cast-self
-overflow-cast-self c = omega (arith, c.in-None.ensures.0)
+pub overflow_cast-self : goal.overflow_cast-self
+overflow_cast-self c = omega (arith, c.in-None.ensures.0)
 
-pub overflow-cast-result : goal.overflow-cast-result
-overflow-cast-result c = omega (arith, c.in-None.ensures.0)
+pub overflow_cast-result : goal.overflow_cast-result
+overflow_cast-result c = omega (arith, c.in-None.ensures.0)
 
 pub returns-in-Some : goal.returns-in-Some
 returns-in-Some c =

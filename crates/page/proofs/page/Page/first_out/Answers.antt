@@ -3,15 +3,15 @@ use Rattle.page.specs.Pages.{text, spaces}
 use Rattle.page.proofs.Adoption.{all_form, beyond, one_more, found_out}
 use Rattle.page.proofs.page.Page.first_out.Goals as goal
 
-pub returns-then-not-in-form : goal.returns-then-not-in-form
-returns-then-not-in-form c =
+pub returns-then-not-in_form : goal.returns-then-not-in_form
+returns-then-not-in_form c =
     let p = c.args.self.now in
-    found_out (text p) (spaces p) c.loop-k.k c.loop-k.invariant c.in-form.result c.in-form.ensures c.if-not-in-form.true (omega arith) c.args.n (omega arith)
+    found_out (text p) (spaces p) c.loop-k.k c.loop-k.invariant c.in_form.result c.in_form.ensures c.if-not-in_form.true (omega arith) c.args.n (omega arith)
 
 pub loop-k-preserved : goal.loop-k-preserved
 loop-k-preserved c =
     let p = c.args.self.now in
-    one_more (text p) (spaces p) c.loop-k.k c.loop-k.invariant c.in-form.result c.in-form.ensures c.if-not-in-form.false
+    one_more (text p) (spaces p) c.loop-k.k c.loop-k.invariant c.in_form.result c.in_form.ensures c.if-not-in_form.false
 
 pub returns-then-n-room : goal.returns-then-n-room
 returns-then-n-room c =

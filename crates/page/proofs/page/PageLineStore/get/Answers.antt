@@ -8,8 +8,8 @@ use Rattle.page.proofs.page.PageLineStore.get.Goals as goal
 pub returns-then-n-count : goal.returns-then-n-count
 returns-then-n-count c = sym (numbered_past (standing c.args.self.now) c.args.n (omega arith))
 
-pub slice-bounds-decode-end : goal.slice-bounds-decode-end
-slice-bounds-decode-end c =
+pub slice_bounds-decode-end : goal.slice_bounds-decode-end
+slice_bounds-decode-end c =
     let p = c.args.self.now in
     let l = rows_length (min p.count (spaces p)) p.bytes.now in
     let h : 46 * (c.args.n - 1) + 46 ≤ length p.bytes.now = omega arith in

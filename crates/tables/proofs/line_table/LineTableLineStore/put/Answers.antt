@@ -7,8 +7,8 @@ use Rattle.tables.proofs.line_table.LineTableLineStore.put.Goals as goal
 less : (c : goal.After-push) → length (standing c.args.self.now) < spaces c.args.self.now
 less c = omega (arith, within_room c.args.self.now)
 
-pub overflow-add-result : goal.overflow-add-result
-overflow-add-result c = omega (arith, less c)
+pub overflow_add-result : goal.overflow_add-result
+overflow_add-result c = omega (arith, less c)
 
 pub returns : goal.returns
 returns c =
