@@ -55,7 +55,7 @@ fn page(rt: HostRuntime) {
     let mut bytes = [b'x'; 100];
     put_get_cut(&rt, &mut Page::new(&mut bytes));
     assert!(rt; bytes[99] == b'x');
-    assert!(rt; &bytes[0..46] == b"255 65535     0     1    10   999 10000 65535\n");
+    assert!(rt; &bytes[0..46] == b"255 65535     0     1    10   999 10000 65535\n".as_slice());
 }
 
 #[test]
