@@ -1,5 +1,5 @@
-//! Links the static library of the crate `boundary`, and the C library of the Rattle kit that it calls.
-//! `BOUNDARY_LIB` may name another file for the first; `RATTLE_C_LIB` names the second, `lib/librattle_c.a` of the kit.
+//! Links the static library of the crate `boundary_c`, and the C library of the Rattle kit that it calls.
+//! `BOUNDARY_LIB` may name another file for the first; `RATTLE_C_LIB` names the second, `c/liblibc_c.a` of the kit.
 
 use std::env;
 use std::path::{Path, PathBuf};
@@ -10,9 +10,9 @@ fn main() {
     if env::var_os("CARGO_FEATURE_BOUNDARY").is_none() {
         return;
     }
-    link(&library(), "run `rt staticlib boundary` in the repository root, or build with --no-default-features for the plain checker alone");
+    link(&library(), "run bench/run.sh, or build with --no-default-features for the plain checker alone");
     if let Some(kit) = env::var_os("RATTLE_C_LIB") {
-        link(&PathBuf::from(kit), "RATTLE_C_LIB is to name lib/librattle_c.a of the Rattle kit");
+        link(&PathBuf::from(kit), "RATTLE_C_LIB is to name c/liblibc_c.a of the Rattle kit");
     }
 }
 

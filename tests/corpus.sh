@@ -6,7 +6,7 @@ cd "$(dirname "$0")/.."
 runs=0 wrong=0
 while read -r page rule answer place cause; do
     expected=$(printf '%8d%8d%8d' "$answer" "$place" "$cause")
-    found=$(target/bin/verify "$rule" < "tests/corpus/$page" | tail -n 1)
+    found=$(crates/verify/out/verify "$rule" < "tests/corpus/$page" | tail -n 1)
     runs=$((runs + 1))
     if [ "$found" != "$expected" ]; then
         wrong=$((wrong + 1))

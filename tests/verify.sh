@@ -1,5 +1,5 @@
 #!/usr/bin/env bash
-# Runs the program verify, as `rt check verify` builds it, and compares what it prints and its status with what is expected.
+# Runs the program verify, as `rt run` builds it, and compares what it prints and its status with what is expected.
 set -uo pipefail
 cd "$(dirname "$0")/.."
 runs=0 wrong=0
@@ -15,7 +15,7 @@ page() {
 # Runs verify with words on standard input, and compares its status and all that it prints.
 run() { # STATUS OUTPUT [WORD..]
     local status=$1 expected=$2 output
-    output=$(target/bin/verify "${@:3}" 2>&1; echo "status $?")
+    output=$(crates/verify/out/verify "${@:3}" 2>&1; echo "status $?")
     runs=$((runs + 1))
     if [ "$output" != "$expected"$'\n'"status $status" ]; then
         wrong=$((wrong + 1))

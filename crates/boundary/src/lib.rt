@@ -1,9 +1,9 @@
-// The checker for C and Rust, as a static library. Nothing checks a caller's declarations against these.
+// The checker over bytes and records, with its answer in one number: what the static library offers to C and Rust.
 //
-//     uint64_t check_page(uint8_t *bytes, size_t len, uint8_t rule)
+//     check_page(heap, bytes, rule)
 //         the bytes as a page: every 46 of them are taken for a line, an incomplete last place too; then the listing is checked
-//     uint64_t check_table(line *records, size_t len, uint8_t rule)
-//         the records as a listing: each is a byte and seven 16-bit numbers, 16 bytes in all
+//     check_table(heap, records, rule)
+//         the records as a listing
 //
 // rule: 0 for EqualBounds, any other number for LeastBound.
 // The result is answer * 2^40 + place * 2^8 + cause: the answer is 0 for a sound listing, 13 for an unsound one, and 14 for a page with a
@@ -36,16 +36,14 @@ fn rule_numbered(rule: u8) -> RuleName
     }
 }
 
-#[unsafe(no_mangle)]
-pub extern "C" fn check_page(heap: Global, bytes: &mut [u8], rule: u8) -> u64
+pub fn check_page(heap: Global, bytes: &mut [u8], rule: u8) -> u64
     ensures answer { OnPage rule bytes.old result }
     ensures bytes { bytes.new ≡ bytes.old }
 {
     pack(verify(rule_numbered(rule), bytes, heap).answer)
 }
 
-#[unsafe(no_mangle)]
-pub extern "C" fn check_table(heap: Global, records: &mut [Line], rule: u8) -> u64
+pub fn check_table(heap: Global, records: &mut [Line], rule: u8) -> u64
     ensures { OnTable rule records.old result }
 {
     let n = records.len();
