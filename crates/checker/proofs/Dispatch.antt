@@ -1,5 +1,5 @@
 -- Which test a range of codes comes to.
-use Rattle.std.proofs.Common.{◌≡◌, ℕ, ◌<◌, ◌≤◌, Bool, true, false, cond, ◌&&◌, eqb, leb, sym, refl, ap, ◌∙◌, ⊎_elim, arith}
+use Rattle.std.proofs.Common.{◌≡◌, ℕ, ◌≤◌, true, false, leb, sym, ◌∙◌, ⊎_elim, arith}
 use Rattle.checker.specs.Decide.{At, in_range, named, term_named, env_named, variable_named, subtype_named, typed_named, numbered_variable, follows, subtype, typed}
 use Rattle.lines.specs.declared.line.Line.{Line}
 use Rattle.std.proofs.lemmas.Bool.{le-leb, lt-leb, ne_eqb, and_from, and_left, and_right, cases_lt, cond-true, cond-false}

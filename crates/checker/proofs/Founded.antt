@@ -2,10 +2,9 @@
 use Rattle.std.proofs.Common.{◌≡◌, ℕ, zero, suc, ◌+◌, ◌-◌, ◌≤◌, Bool, true, false, cond, not, ◌&&◌, T, eqb, ltb, leb, Some, refl, add-one, arith}
 use Rattle.checker.proofs.Reading.{reading}
 use Rattle.checker.proofs.Sessions.{Tracked}
-use Rattle.checker.specs.Decide.{At, at, in_range, raises, puts, bound_is, typing_is, is_env, is_type, is_sub, has_type, binds_term, binds_type, raise_by, put_by, bound_by, typing_by, env_by, formed_by, follows}
+use Rattle.checker.specs.Decide.{At, in_range, raises, puts, bound_is, typing_is, is_env, is_type, is_sub, has_type, binds_term, binds_type, raise_by, put_by, bound_by, typing_by, env_by, formed_by, follows}
 use Rattle.lines.specs.declared.line.Line.{Line}
 use Rattle.rules.proofs.Codes.{line_of, says}
-use Rattle.rules.specs.Follows
 use Rattle.rules.specs.Follows.{Raises, Puts, BoundIs, TypingIs, IsEnv, IsType, IsSub, Has, Follows}
 use Rattle.rules.specs.Statements.{top', var', arrow', all', rec', top_term', var_term', fun', appl', fun2', appl2', fold_term', unfold_term', rec_term', with_term', with_type', SubRule, s_refl, s_trans, s_var, s_top, s_arrow, s_all, HasRule, h_subsumed, h_var, h_top, h_fun, h_appl, h_fun2, h_appl2, h_fold, h_unfold, h_rec, Statement, type_line, term_line, env_line, raising, putting, bound_line, typing_line, env_judged, type_judged, sub_judged, has_judged, name_line, let_type, let_term, table, coded, statement, Get}
 use Rattle.rules.specs.declared.all_code.AllCode.TheVariants.{Equal, Least}

@@ -6,7 +6,6 @@ use Rattle.checker.specs.Decide.{At, in_range, follows}
 use Rattle.lines.specs.declared.line.Line.{Line}
 use Rattle.rules.proofs.Codes.{sub_code, has_code, line_of, says, reads}
 use Rattle.rules.proofs.Whole.{none_some}
-use Rattle.rules.specs.Follows
 use Rattle.rules.specs.Follows.{TypeNumbered, TermNumbered, Follows}
 use Rattle.rules.specs.Statements.{TypeLine, top', var', arrow', all', rec', TermLine, top_term', var_term', fun', appl', fun2', appl2', fold_term', unfold_term', rec_term', EnvLine, empty', with_term', with_type', SubRule, s_refl, s_trans, s_var, s_top, s_arrow, s_all, HasRule, h_subsumed, h_var, h_top, h_fun, h_appl, h_fun2, h_appl2, h_fold, h_unfold, h_rec, Statement, type_line, term_line, env_line, statement}
 use Rattle.rules.specs.declared.all_code.AllCode.TheVariants.{Equal, Least}

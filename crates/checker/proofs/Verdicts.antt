@@ -1,5 +1,5 @@
 -- From the tests to the definition: a line that passes them is without fault, and one that fails is at fault for that cause.
-use Rattle.std.proofs.Common.{◌≡◌, ℕ, suc, ◌+◌, ◌<◌, ◌≤◌, List, length, take, Some, None, sym, refl, ap, ◌∙◌, subst, add-one, arith}
+use Rattle.std.proofs.Common.{◌≡◌, ℕ, suc, ◌+◌, List, take, Some, None, sym, ap, ◌∙◌, subst, add-one}
 use Rattle.checker.proofs.Columns.{known_yes, known_no, zero_past_yes, zero_past_no}
 use Rattle.checker.proofs.Following.{follows_yes, follows_no}
 use Rattle.checker.proofs.References.{named_yes, named_no}

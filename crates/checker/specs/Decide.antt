@@ -1,5 +1,5 @@
 -- The checker's tests over line numbers, in the order of the codes. L n is line n, and a line of code 0 where there is none.
-use Rattle.std.specs.Prelude.{ℕ, ◌+◌, Bool, true, false, cond, not, ◌&&◌, ◌||◌, List, [], ◌∷◌, take, Some, None, Option, ◌==◌, nat_le, nat_lt}
+use Rattle.std.specs.Prelude.{ℕ, ◌+◌, Bool, true, false, cond, not, ◌&&◌, ◌||◌, List, take, Some, None, Option, ◌==◌, nat_le, nat_lt}
 use Rattle.lines.specs.Stores.{numbered}
 use Rattle.lines.specs.declared.line.Line.{Line}
 use Rattle.rules.specs.Faults.{numbers}

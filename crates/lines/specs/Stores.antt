@@ -1,5 +1,5 @@
 -- What the calls of a line store do to its list of lines.
-use Rattle.std.specs.Prelude.{◌≡◌, ℕ, zero, suc, ◌+◌, ◌<◌, List, [], ◌∷◌, ◌++◌, length, Some, None, Ok, Err, Option, Result}
+use Rattle.std.specs.Prelude.{◌≡◌, ℕ, zero, suc, ◌+◌, ◌<◌, List, [], ◌∷◌, ◌++◌, length, None, Ok, Err, Option, Result}
 use Rattle.lines.specs.declared.line.Line.{Line}
 use Rattle.lines.specs.declared.store.StoreFault.{StoreFault}
 use Rattle.std.specs.List.{slice_get}

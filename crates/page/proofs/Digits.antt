@@ -1,8 +1,8 @@
 -- What a line is written as reads back as the line.
-use Rattle.std.proofs.Common.{◌≡◌, ℕ, ◌+◌, ◌-◌, ◌*◌, ◌/◌, ◌%◌, ◌<◌, ◌≤◌, min, ltb, List, sym, refl, ap, ◌∙◌, arith}
+use Rattle.std.proofs.Common.{◌≡◌, ℕ, ◌+◌, ◌-◌, ◌*◌, ◌/◌, ◌%◌, ◌≤◌, min, ltb, List, sym, ap, ◌∙◌, arith}
 use native.Mathlib.Nat.{div-eq_of_lt, div-div-eq-div-mul, min-eq_left, min-le_right}
 use Rattle.std.proofs.lemmas.Bool.{cond_both, ltb-true}
-use Rattle.page.specs.Form.{digit, in_three, in_six, encoded, of_three, of_six, decoded, InRange, InForm}
+use Rattle.page.specs.Form.{digit, in_three, in_six, encoded, of_three, of_six, decoded, InRange}
 use Rattle.lines.specs.declared.line.Line.{Line}
 
 digit_value : (n p : ℕ) → digit n p - 48 ≡ n / p % 10

@@ -1,14 +1,14 @@
 -- The lines that places are read as: fewer of them, one of them, and after one place is written.
-use Rattle.std.proofs.Common.{◌≡◌, ℕ, zero, suc, ◌+◌, ◌-◌, ◌*◌, ◌/◌, ◌<◌, ◌≤◌, min, ◌⊎◌, List, [], ◌∷◌, ◌++◌, length, take, drop, Some, None, sym, refl, ap, ◌∙◌, subst, inl, inr, le_of_lt, add-one, arith, length-append, length-drop, length-take}
+use Rattle.std.proofs.Common.{◌≡◌, ℕ, zero, suc, ◌+◌, ◌-◌, ◌*◌, ◌/◌, ◌<◌, ◌≤◌, min, List, [], ◌∷◌, ◌++◌, length, take, drop, Some, sym, refl, ap, ◌∙◌, subst, inl, inr, add-one, arith, length-append, length-drop}
 use Rattle.std.proofs.lemmas.List.{take_all, take_at, drop_at, take-take, take-append-le, drop-take, append_assoc, get_or_push, length_push, length-take-le}
-use Rattle.std.proofs.lemmas.Option.{slice_get-get_or, slice_get_past}
+use Rattle.std.proofs.lemmas.Option.{slice_get-get_or}
 use Rattle.std.proofs.lemmas.Bool.{cases_lt}
 use Rattle.std.specs.List.{slice_get}
 use Rattle.page.specs.Form.{pasted, encoded, decoded, InForm}
 use Rattle.page.specs.Pages.{place, rows, rows_length}
 use Rattle.lines.specs.Stores.{numbered}
 use Rattle.lines.specs.declared.line.Line.{Line}
-use Rattle.lines.proofs.Numbered.{numbered_is, nth_take, numbered_past}
+use Rattle.lines.proofs.Numbered.{numbered_is, nth_take}
 use Rattle.page.proofs.Written.{length-encoded}
 
 rows_front : (k n : ℕ) (s : List ℕ) → n ≤ k → take n (rows k s) ≡ rows n s

@@ -1,5 +1,5 @@
 -- From what adopt answers of a page to the verdict on its bytes.
-use Rattle.std.proofs.Common.{◌≡◌, ℕ, ◌+◌, ◌-◌, ◌*◌, ◌/◌, ◌%◌, ◌<◌, ◌≤◌, min, List, length, take, drop, sym, refl, ap, ◌∙◌, subst, inl, inr, arith, length-drop, length-take}
+use Rattle.std.proofs.Common.{◌≡◌, ℕ, ◌+◌, ◌-◌, ◌*◌, ◌/◌, ◌%◌, ◌<◌, ◌≤◌, min, List, length, take, drop, refl, ap, ◌∙◌, subst, inl, inr, arith, length-drop, length-take}
 use Rattle.checker.specs.Checked.{Checked}
 use Rattle.page.proofs.Rows.{rows_take}
 use Rattle.page.proofs.Written.{length-encoded}

@@ -1,5 +1,5 @@
 -- Spaces written one by one, up to the eighth column.
-use Rattle.std.proofs.Common.{◌≡◌, ℕ, suc, ◌+◌, ◌-◌, ◌<◌, ◌≤◌, List, [], ◌∷◌, ◌++◌, length, replicate, decimal, sym, refl, ap, ◌∙◌, arith}
+use Rattle.std.proofs.Common.{◌≡◌, ℕ, suc, ◌+◌, ◌-◌, ◌<◌, ◌≤◌, List, [], ◌∷◌, ◌++◌, length, replicate, decimal, sym, ap, ◌∙◌, arith}
 use Rattle.report.specs.Report.{in_eight}
 use Rattle.std.proofs.lemmas.List.{append-nil, append_assoc}
 

@@ -1,8 +1,7 @@
 -- When a line is at fault, and when a listing is sound: at any length and numbers.
-use Rattle.std.specs.Prelude.{◌≡◌, ℕ, suc, ◌<◌, ◌≤◌, Bool, true, false, T, ◌⊎◌, List, [], ◌∷◌, length, take, drop, Some, None, Option, ◌≢◌}
+use Rattle.std.specs.Prelude.{◌≡◌, ℕ, suc, ◌<◌, ◌≤◌, Bool, true, T, ◌⊎◌, List, [], ◌∷◌, length, take, drop, Some, None, Option, ◌≢◌}
 use Rattle.lines.specs.Answers.{cause_number}
 use Rattle.lines.specs.Stores.{numbered}
-use Rattle.lines.specs.declared.answer.Answer.{Answer}
 use Rattle.lines.specs.declared.answer.Cause.{Cause}
 use Rattle.lines.specs.declared.answer.Cause.TheVariants.{Code, Column as PastColumn, Reference, Repeated, Unfounded}
 use Rattle.lines.specs.declared.line.Line.{Line}

@@ -8,6 +8,8 @@ pub mod Names
 pub mod Meaning
 pub mod Follows
 pub mod Faults
+-- That the two rules keep the laws, and what this rests on. A law of a trait is proved where an implementation names its proof, so these stand
+-- here; a reader need not believe them.
 pub mod LawsLemmas
 pub mod Transitive
 pub mod Renaming

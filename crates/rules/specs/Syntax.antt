@@ -1,6 +1,6 @@
 -- Types, terms and environments. Variables are numbered outward from 1, type and term binders apart:
 -- a term binder shifts no type variable, and an arrow binds nothing.
-use Rattle.std.specs.Prelude.{ℕ, zero, suc, pred, ◌<◌, ◌≤◌, cond, ◌==◌, nat_lt}
+use Rattle.std.specs.Prelude.{ℕ, zero, suc, pred, ◌≤◌, cond, ◌==◌, nat_lt}
 
 pub data Ty : Type 0 where
   top : Ty

@@ -1,5 +1,5 @@
 -- The first k records of a table, as its calls leave them: k is the cap on a store's room.
-use Rattle.std.proofs.Common.{◌≡◌, ℕ, zero, suc, ◌+◌, ◌-◌, ◌<◌, ◌≤◌, min, Bool, true, false, cond, List, [], ◌∷◌, ◌++◌, length, take, set, sym, refl, ap, ◌∙◌, le_of_suc-le-suc, arith, length-take}
+use Rattle.std.proofs.Common.{◌≡◌, ℕ, ◌-◌, ◌<◌, ◌≤◌, min, Bool, true, false, cond, List, [], ◌∷◌, ◌++◌, length, take, set, sym, ap, ◌∙◌, arith, length-take}
 use native.Mathlib.Nat.{min_comm}
 use Rattle.std.proofs.lemmas.List.{take_all, length_push}
 use Rattle.std.specs.List.{slice_get}

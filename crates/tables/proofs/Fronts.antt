@@ -1,5 +1,5 @@
 -- The first records of a list: one added, one taken away, fewer kept.
-use Rattle.std.proofs.Common.{◌≡◌, ℕ, zero, suc, ◌+◌, ◌-◌, ◌<◌, ◌≤◌, min, List, [], ◌∷◌, ◌++◌, length, get_or, take, set, Some, sym, refl, ap, ◌∙◌, subst, arith, length-take, take-take}
+use Rattle.std.proofs.Common.{◌≡◌, ℕ, zero, suc, ◌+◌, ◌-◌, ◌<◌, min, List, [], ◌∷◌, ◌++◌, length, get_or, take, set, Some, sym, refl, ap, ◌∙◌, subst, arith, length-take, take-take}
 use native.Mathlib.Nat.{suc-min-suc, min-zero, zero-min}
 use Rattle.std.proofs.lemmas.List.{take_more, take_more_set, take_all, get_or-take}
 use Rattle.std.proofs.lemmas.Option.{slice_get-get_or}

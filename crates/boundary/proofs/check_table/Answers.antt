@@ -1,4 +1,4 @@
-use Rattle.std.proofs.Common.{subst, subst₂, inr}
+use Rattle.std.proofs.Common.{subst₂, inr}
 use Rattle.boundary.proofs.check_table.Goals as goal
 use Rattle.checker.proofs.Copies.{adopted_records}
 use Rattle.checker.specs.Checked.{Checked}

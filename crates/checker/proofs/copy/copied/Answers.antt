@@ -1,8 +1,7 @@
-use Rattle.std.proofs.Common.{vec_items, sym, ap, ◌∙◌, arith}
+use Rattle.std.proofs.Common.{vec_items, ◌∙◌, arith}
 use Rattle.checker.proofs.Copies.{copied_more}
 use Rattle.checker.proofs.copy.copied.Goals as goal
 use Rattle.std.proofs.lemmas.List.{take_all}
-use Rattle.std.proofs.lemmas.Slice.{pushed}
 
 pub loop-n-preserved : goal.loop-n-preserved
 loop-n-preserved g c =

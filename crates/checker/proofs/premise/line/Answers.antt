@@ -1,4 +1,4 @@
-use Rattle.std.proofs.Common.{sym, ap, ◌∙◌, rules}
+use Rattle.std.proofs.Common.{sym, ap, ◌∙◌}
 use Rattle.checker.proofs.premise.line.Goals as goal
 use Rattle.checker.specs.Decide.{line_or_none}
 use Rattle.rules.proofs.Whole.{numbered_within, numbered_beyond}

@@ -1,5 +1,5 @@
-use Rattle.std.proofs.Common.{◌≡◌, ap, ◌∙◌, arith}
-use Rattle.page.specs.Form.{pasted, in_six, encoded, decoded, InRange}
+use Rattle.std.proofs.Common.{ap, ◌∙◌, arith}
+use Rattle.page.specs.Form.{pasted, in_six, decoded, InRange}
 use Rattle.page.proofs.Digits.{encoded_back}
 use Rattle.page.proofs.Written.{assembled}
 use Rattle.page.proofs.form.encode.Goals as goal

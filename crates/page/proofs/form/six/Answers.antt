@@ -1,4 +1,4 @@
-use Rattle.std.proofs.Common.{◌≡◌, true, ltb, rules}
+use Rattle.std.proofs.Common.{◌≡◌, rules}
 use Rattle.page.specs.Form.{in_six, digit}
 use Rattle.page.proofs.form.six.Goals as goal
 

@@ -1,4 +1,4 @@
-use Rattle.std.proofs.Common.{sym, ◌∙◌, arith}
+use Rattle.std.proofs.Common.{◌∙◌, arith}
 use Rattle.page.specs.Form.{in_six}
 use Rattle.page.proofs.Written.{put_mid-pasted, length-in_six}
 use Rattle.page.proofs.form.write_six.Goals as goal

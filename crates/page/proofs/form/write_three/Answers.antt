@@ -1,4 +1,4 @@
-use Rattle.std.proofs.Common.{sym, ◌∙◌, arith}
+use Rattle.std.proofs.Common.{◌∙◌, arith}
 use Rattle.page.specs.Form.{in_three}
 use Rattle.page.proofs.Written.{put_mid-pasted, length-in_three}
 use Rattle.page.proofs.form.write_three.Goals as goal

@@ -1,6 +1,6 @@
 use Rattle.std.proofs.Common.{ℕ, ◌<◌}
 use Rattle.page.specs.Form.{InForm}
-use Rattle.page.specs.Pages.{place, text}
+use Rattle.page.specs.Pages.{place}
 use Rattle.page.proofs.page.Page.first_out.Given as goal
 
 abbrev pub invariant-loop-k : goal.invariant-loop-k

@@ -1,6 +1,6 @@
 use Rattle.std.proofs.Common.{◌≡◌, ◌+◌, ◌-◌, ◌*◌, ◌≤◌, min, length, take, drop, Some, sym, ap, ◌∙◌, arith}
 use Rattle.page.specs.Form.{decoded}
-use Rattle.page.specs.Pages.{rows, spaces, standing, rows_length}
+use Rattle.page.specs.Pages.{spaces, standing, rows_length}
 use Rattle.lines.proofs.Numbered.{numbered_past}
 use Rattle.page.proofs.Rows.{rows_numbered}
 use Rattle.page.proofs.page.PageLineStore.get.Goals as goal

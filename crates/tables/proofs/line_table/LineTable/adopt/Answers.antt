@@ -1,4 +1,4 @@
-use Rattle.std.proofs.Common.{length, sym, refl, ap, ◌∙◌, arith}
+use Rattle.std.proofs.Common.{length, refl, ap, arith}
 use Rattle.tables.specs.Tables.{held, contents}
 use Rattle.tables.proofs.Capped.{capped_adopt, length_capped}
 use Rattle.tables.proofs.line_table.LineTable.adopt.Goals as goal
