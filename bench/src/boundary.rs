@@ -1,4 +1,4 @@
-//! The proved checker, called through the static library of the crate `boundary`.
+//! The proved checker, called through the static library of the crate `boundary_c`.
 
 use crate::listing::{Answer, Line, Rule};
 use crate::tree::Read;
