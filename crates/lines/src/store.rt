@@ -25,8 +25,7 @@ pub trait LineStore {
     // what its calls keep true from new on; nothing requires it
     ghost keeps: { Self → Type 0 };
 
-    // Two laws, which every store proves: the lines are within the room, and the room within the cap.
-    // They are members, since a `law` is proved by hand where the store's type has a lifetime.
+    // Two facts that every store proves: the lines are within the room, and the room within the cap.
     ghost within: { (s : Self) → length (lines s) ≤ most s };
 
     ghost capped: { (s : Self) → most s ≤ 65535 };

@@ -1,6 +1,6 @@
 // The page: the line store that keeps lines as text in lent bytes.
 //
-// Page         a line store, as PageStore: lines as text in lent bytes, LINE_BYTES a line. Room: its whole places, at most 65,535.
+// Page         a line store: lines as text in lent bytes, LINE_BYTES a line. Room: its whole places, at most 65,535.
 //   new(bytes) no lines; no byte is changed
 //   adopt(n)   Granted(n), if the first n places are within the room and in form: they are the lines
 //              OutOfForm(p) else, p the lowest place, from 1, that is not: the lines are as they were

@@ -10,7 +10,7 @@
 //   cut(n)     keeps the first n records, or all if n is larger
 //   adopt(n)   true: the first n slots are the records; false, exactly when n is above places: changes nothing
 //
-// LineTable    a line store, as LineTableStore: lines as records in a lent slice. Room: its records, at most 65,535.
+// LineTable    a line store: lines as records in a lent slice. Room: its records, at most 65,535.
 //   new(slots) no lines; no record is changed
 //   adopt(n)   Granted(n), if n is within the room: the first n records are the lines
 //              OutOfForm(room + 1) else: the lines are as they were
