@@ -25,6 +25,7 @@ pub trait Quantifier {
     fn body_bound() -> BodyBound
         ensures { result ≡ bodies_under rule.own };
 
+    // The laws, over the judge's tries; each implementation proves them.
     ghost chains: { Chains rule };
 
     ghost instances: { Instances rule };
