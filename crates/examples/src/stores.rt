@@ -2,7 +2,7 @@
 
 use lines::{Answer, Line, LineStore, StoreFault};
 use page::Page;
-use std::process::Abort;
+use std::test::Fail;
 use tables::LineTable;
 
 const NONE: Line = Line {
@@ -27,35 +27,52 @@ const LAST: Line = Line {
     c7: 65535,
 };
 
-fn put_get_cut<S: LineStore>(rt: &impl Abort, s: &mut S) {
-    assert_eq!(rt; s.count(), 0);
-    assert_eq!(rt; s.room(), 2);
-    assert_eq!(rt; s.put(LAST), Ok(1));
-    assert_eq!(rt; s.put(NONE), Ok(2));
-    assert_eq!(rt; s.put(NONE), Err(StoreFault { count: 2 }));
-    assert_eq!(rt; s.get(0), None);
-    assert_eq!(rt; s.get(1), Some(LAST));
-    assert_eq!(rt; s.get(2), Some(NONE));
-    assert_eq!(rt; s.get(3), None);
+// What was found, where it is not what was expected.
+#[derive(Debug, Drop)]
+struct Differs<T> {
+    found: T,
+    expected: T,
+}
+
+fn same<T: PartialEq + Drop>(found: T, expected: T) -> Result<(), Differs<T>> {
+    if found == expected {
+        Ok(())
+    } else {
+        Err(Differs { found, expected })
+    }
+}
+
+fn put_get_cut<S: LineStore>(s: &mut S) -> Result<(), Fail> {
+    same(s.count(), 0)?;
+    same(s.room(), 2)?;
+    same(s.put(LAST), Ok(1))?;
+    same(s.put(NONE), Ok(2))?;
+    same(s.put(NONE), Err(StoreFault { count: 2 }))?;
+    same(s.get(0), None)?;
+    same(s.get(1), Some(LAST))?;
+    same(s.get(2), Some(NONE))?;
+    same(s.get(3), None)?;
     s.cut(3);
-    assert_eq!(rt; s.count(), 2);
+    same(s.count(), 2)?;
     s.cut(1);
-    assert_eq!(rt; s.count(), 1);
-    assert_eq!(rt; s.get(2), None);
+    same(s.count(), 1)?;
+    same(s.get(2), None)?;
+    Ok(())
 }
 
 #[test]
-fn table(rt: HostRuntime) {
+fn table() -> Result<(), Fail> {
     let mut slots = [NONE; 2];
-    put_get_cut(&rt, &mut LineTable::new(&mut slots));
+    put_get_cut(&mut LineTable::new(&mut slots))
 }
 
 #[test]
-fn page(rt: HostRuntime) {
+fn page(rt: HostRuntime) -> Result<(), Fail> {
     let mut bytes = [b'x'; 100];
-    put_get_cut(&rt, &mut Page::new(&mut bytes));
+    put_get_cut(&mut Page::new(&mut bytes))?;
     assert!(rt; bytes[99] == b'x');
     assert!(rt; &bytes[0..46] == b"255 65535     0     1    10   999 10000 65535\n".as_slice());
+    Ok(())
 }
 
 #[test]
