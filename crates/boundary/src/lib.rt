@@ -13,26 +13,26 @@
 ghost use Rattle.std.specs.Prelude.{◌≡◌, ◌≤◌};
 ghost use Rattle.boundary.specs.Packed.{packed, numbered_rule, OnPage, OnTable};
 
-use checker::check;
-use lines::{Answer, Line, MAX_ROOM};
+use lines::{Answer, Line};
 use report::{RuleName, verify};
-use rules::{EqualBounds, LeastBound};
 use std::alloc::Global;
 use tables::LineTable;
 
+// Kept as numbers, here and below: the C interface has the answer as a u64 and the rule as a u8.
 fn pack(answer: Answer) -> u64
     ensures { result ≡ packed answer }
 {
-    answer.number() as u64 * 1099511627776 + answer.place() as u64 * 256 + answer.cause() as u64
+    (u64::from(answer.number()) << 40)
+        + (u64::from(answer.place()) << 8)
+        + u64::from(answer.cause())
 }
 
 fn rule_numbered(rule: u8) -> RuleName
     ensures { result ≡ numbered_rule rule }
 {
-    if rule == 0 {
-        RuleName::EqualBounds
-    } else {
-        RuleName::LeastBound
+    match rule {
+        0 => RuleName::EqualBounds,
+        _ => RuleName::LeastBound,
     }
 }
 
@@ -47,13 +47,9 @@ pub fn check_table(heap: Global, records: &mut [Line], rule: u8) -> u64
     ensures { OnTable rule records.old result }
 {
     let n = records.len();
-    if n > MAX_ROOM {
-        return pack(Answer::OutOfForm(65536));
-    }
     let mut table = LineTable::new(records);
-    let _ = table.adopt(n);
-    match rule_numbered(rule) {
-        RuleName::EqualBounds => pack(check::<EqualBounds, LineTable>(&table, heap)),
-        RuleName::LeastBound => pack(check::<LeastBound, LineTable>(&table, heap)),
+    match table.adopt(n) {
+        Ok(_) => pack(rule_numbered(rule).check(&table, heap).into()),
+        Err(fault) => pack(fault.into()),
     }
 }

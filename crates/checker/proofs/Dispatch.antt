@@ -1,6 +1,6 @@
 -- Which test a range of codes comes to.
 use Rattle.std.proofs.Common.{◌≡◌, ℕ, ◌≤◌, true, false, leb, sym, ◌∙◌, ⊎_elim, arith}
-use Rattle.checker.specs.Decide.{At, in_range, named, term_named, env_named, variable_named, subtype_named, typed_named, numbered_variable, follows, subtype, typed}
+use Rattle.checker.specs.Decide.{At, in_range, numbered_variable, follows, subtype, typed}
 use Rattle.lines.specs.declared.line.Line.{Line}
 use Rattle.std.proofs.lemmas.Bool.{le-leb, lt-leb, ne_eqb, and_from, and_left, and_right, cases_lt, cond-true, cond-false}
 
@@ -26,27 +26,6 @@ pub record Other (c : ℕ) : Type 0 where
   pub typed : 70 ≤ c → c ≤ 79 → ⊥
   pub let_type : c ≡ 91 → ⊥
   pub let_term : c ≡ 92 → ⊥
-
-module _ (L : At) (l : Line) where
-  pub named_20_28 : 20 ≤ l.code → l.code ≤ 28 → named L l ≡ term_named L l
-  named_20_28 h k = let c = l.code in cond-false _ _ _ (outside 10 14 c (omega arith)) ∙ cond-true _ _ _ (inside 20 28 c h k)
-
-  pub named_30_32 : 30 ≤ l.code → l.code ≤ 32 → named L l ≡ env_named L l
-  named_30_32 h k = let c = l.code in cond-false _ _ _ (outside 10 14 c (omega arith)) ∙ cond-false _ _ _ (outside 20 28 c (omega arith)) ∙ cond-true _ _ _ (inside 30 32 c h k)
-
-  pub named_42_43 : 42 ≤ l.code → l.code ≤ 43 → named L l ≡ variable_named L l
-  named_42_43 h k = let c = l.code in cond-false _ _ _ (outside 10 14 c (omega arith)) ∙ cond-false _ _ _ (outside 20 28 c (omega arith)) ∙ cond-false _ _ _ (outside 30 32 c (omega arith)) ∙ cond-false _ _ _ (ne_eqb c 40 (omega arith)) ∙ cond-false _ _ _ (ne_eqb c 41 (omega arith)) ∙ cond-true _ _ _ (inside 42 43 c h k)
-
-  pub named_60_66 : 60 ≤ l.code → l.code ≤ 66 → named L l ≡ subtype_named L l
-  named_60_66 h k = let c = l.code in cond-false _ _ _ (outside 10 14 c (omega arith)) ∙ cond-false _ _ _ (outside 20 28 c (omega arith)) ∙ cond-false _ _ _ (outside 30 32 c (omega arith)) ∙ cond-false _ _ _ (ne_eqb c 40 (omega arith)) ∙ cond-false _ _ _ (ne_eqb c 41 (omega arith)) ∙ cond-false _ _ _ (outside 42 43 c (omega arith)) ∙ cond-false _ _ _ (ne_eqb c 50 (omega arith)) ∙ cond-false _ _ _ (ne_eqb c 51 (omega arith)) ∙ cond-true _ _ _ (inside 60 66 c h k)
-
-  pub named_70_79 : 70 ≤ l.code → l.code ≤ 79 → named L l ≡ typed_named L l
-  named_70_79 h k = let c = l.code in cond-false _ _ _ (outside 10 14 c (omega arith)) ∙ cond-false _ _ _ (outside 20 28 c (omega arith)) ∙ cond-false _ _ _ (outside 30 32 c (omega arith)) ∙ cond-false _ _ _ (ne_eqb c 40 (omega arith)) ∙ cond-false _ _ _ (ne_eqb c 41 (omega arith)) ∙ cond-false _ _ _ (outside 42 43 c (omega arith)) ∙ cond-false _ _ _ (ne_eqb c 50 (omega arith)) ∙ cond-false _ _ _ (ne_eqb c 51 (omega arith)) ∙ cond-false _ _ _ (outside 60 66 c (omega arith)) ∙ cond-true _ _ _ (inside 70 79 c h k)
-
-  pub named_other : Other l.code → true ≡ named L l
-  named_other n =
-      let c = l.code in
-      sym (cond-false _ _ _ (outside 10 14 c n.types) ∙ cond-false _ _ _ (outside 20 28 c n.terms) ∙ cond-false _ _ _ (outside 30 32 c n.envs) ∙ cond-false _ _ _ (ne_eqb c 40 n.raise) ∙ cond-false _ _ _ (ne_eqb c 41 n.put) ∙ cond-false _ _ _ (outside 42 43 c n.variable) ∙ cond-false _ _ _ (ne_eqb c 50 n.env) ∙ cond-false _ _ _ (ne_eqb c 51 n.formed) ∙ cond-false _ _ _ (outside 60 66 c n.subtype) ∙ cond-false _ _ _ (outside 70 79 c n.typed) ∙ cond-false _ _ _ (ne_eqb c 91 n.let_type) ∙ cond-false _ _ _ (ne_eqb c 92 n.let_term))
 
 module _ (L : At) (d E : ℕ) (l : Line) where
   pub follows_10_14 : 10 ≤ l.code → l.code ≤ 14 → follows L d E l ≡ numbered_variable 11 l

@@ -7,6 +7,7 @@ pub mod Passing
 pub mod Reading
 pub mod References
 pub mod Sessions
+pub mod SeenLines
 pub mod Sounds
 pub mod Spelling
 pub mod Verdicts

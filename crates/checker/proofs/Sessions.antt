@@ -1,5 +1,5 @@
 -- The latest definition and the session environment, kept from line to line.
-use Rattle.std.proofs.Common.{◌≡◌, ℕ, zero, suc, ◌<◌, ◌≤◌, List, [], take, Some, None, sym, refl, ap, ◌∙◌, ⊎_elim, arith}
+use Rattle.std.proofs.Common.{◌≡◌, ℕ, zero, suc, ◌<◌, ◌≤◌, List, take, Some, None, sym, ap, ◌∙◌, ⊎_elim, arith}
 use Rattle.checker.proofs.Dispatch.{outside}
 use Rattle.checker.specs.Decide.{latest_after, env_after}
 use Rattle.lines.specs.Stores.{numbered}
@@ -134,23 +134,6 @@ module _ (G H : Get) (n : ℕ) (below : (m : ℕ) → m < n → G m ≡ H m) (G-
         rooted = λ m F h. absurd (undefined_now m F h);
         fresh = λ e. absurd (n_positive e);
       }
-
-pub tracked_start : Tracked (said []) 0 0
-tracked_start = record {
-  only = λ d E h. absurd (none d E h);
-  there = λ h. absurd (h refl);
-  begun = λ d E h. absurd (none d E h);
-  rooted = λ m F h. absurd (silent (said []) m F (nothing m) h);
-  fresh = λ e. e;
-}
-  where
-    nothing : (m : ℕ) → said [] m ≡ None
-    nothing zero = refl
-    nothing (suc m) = refl
-
-    none : (d E : ℕ) → Session (said []) d E → ⊥
-    none d E (nothing_defined _ e) = none_some (sym (nothing E) ∙ e)
-    none d E (latest_defined h _) = silent (said []) d E (nothing d) h
 
 type_session : {G : Get} {name B A p E d : ℕ} → Follows G (let_type name B A p E d) → Session G d E
 type_session (define_type h x) = h

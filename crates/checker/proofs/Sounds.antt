@@ -11,7 +11,6 @@ use Rattle.rules.specs.Faults.{admitted, numbers, AllZero, AllName, Right, AtFau
 use Rattle.rules.specs.Follows.{Follows}
 use Rattle.rules.specs.Quantifiers.{Rule}
 use Rattle.rules.specs.Statements.{Statement, statement, said, columns}
-use Rattle.std.proofs.lemmas.List.{take_all}
 
 pub each_cause : (P : Cause → Type 0) → P Code → P Column → P Reference → P Repeated → P Unfounded → (c : Cause) → P c
 each_cause P a b c d e Code = a
@@ -58,17 +57,11 @@ module _ (R : Rule) (before : List Line) (l : Line) (s : Statement) where
             pub fine_from : Follows (said before) s → Fine R before l
             fine_from follows = (s, e, each_cause (Right R before l s) code zeros names new follows)
 
-take_next : {X : Type 0} (xs : List X) (n : ℕ) (x : X) → numbered xs (suc n) ≡ Some x → take (suc n) xs ≡ take n xs ++ x ∷ []
+pub take_next : {X : Type 0} (xs : List X) (n : ℕ) (x : X) → numbered xs (suc n) ≡ Some x → take (suc n) xs ≡ take n xs ++ x ∷ []
 take_next [] n x e = absurd (none_some e)
 take_next (y ∷ xs) zero x e = let same : y ≡ x = cc in ap (λ z. z ∷ []) same
 take_next (y ∷ xs) (suc n) x e = ap (λ ys. y ∷ ys) (take_next xs n x e)
 
 module _ (R : Rule) (lines : List Line) where
-  pub sound_none : Sound R (take 0 lines)
-  sound_none n l e = absurd (none_some e)
-
-  pub sound_all : Sound R (take (length lines) lines) → Sound R lines
-  sound_all h = rw (take_all (length lines) lines (omega arith)) at h
-
   pub sound_next : (n : ℕ) (l : Line) → numbered lines (suc n) ≡ Some l → Sound R (take n lines) → Fine R (take n lines) l → Sound R (take (suc n) lines)
   sound_next n l e sound fine = subst (Sound R) (sym (take_next lines n l e)) (added_sound R (take n lines) sound l fine)

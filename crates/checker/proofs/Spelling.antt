@@ -1,59 +1,41 @@
--- The loops over a name's bytes, a byte at a time.
-use Rattle.std.proofs.Common.{◌≡◌, ℕ, ◌+◌, ◌<◌, ◌≤◌, Bool, true, false, cond, eqb, List, [], ◌∷◌, length, get_or, drop, refl, ap, ◌∙◌, ap₂, arith}
-use Rattle.rules.specs.Names.{letter_or_digit, padded, spells}
-use Rattle.std.proofs.lemmas.List.{drop_more, drop_all}
-use Rattle.std.proofs.lemmas.Bool.{eq-eqb, ne_eqb}
+-- What the calls over a name's bytes say, in the words for names.
+use Rattle.std.proofs.Common.{◌≡◌, ℕ, suc, ◌/◌, ◌%◌, ◌<◌, Bool, true, false, ◌&&◌, ◌||◌, nat_eq, List, [], ◌∷◌, ◌++◌, length, get_or, drop, map, refl, ap, ap₂, ◌∙◌, arith}
+use Rattle.std.specs.Int.{w16, to_be_bytes}
+use Rattle.std.specs.List.{flat_map, list_all, list_any, prefix_len, starts_with}
+use Rattle.std.proofs.lemmas.Bool.Decides.{nat_tests}
+use Rattle.std.proofs.lemmas.List.{drop-drop}
+use Rattle.rules.specs.Names.{letter_or_digit, padded, spells, spells_one, two_bytes}
 
-zero_byte : (e : Bool) (b : ℕ) (bs : List ℕ) → b ≡ 0 → padded e (b ∷ bs) ≡ padded true bs
-zero_byte true b bs z = rw z
-zero_byte false b bs z = rw z
+abbrev all_zero : List ℕ → Bool
+all_zero = list_all (λ b. nat_eq b 0)
 
-padded_end : (e : Bool) → padded e [] ≡ true
-padded_end true = refl
-padded_end false = refl
+all_zero-padded : (bs : List ℕ) → all_zero bs ≡ padded true bs
+all_zero-padded [] = refl
+all_zero-padded (b ∷ bs) = ap (λ t. nat_eq b 0 && t) (all_zero-padded bs)
 
-module _ (bs : List ℕ) (i : ℕ) (h : i < length bs) where
-  pub padded_zero : (e : Bool) → get_or bs i 0 ≡ 0 → padded e (drop i bs) ≡ padded true (drop (i + 1) bs)
-  padded_zero e z = ap (padded e) (drop_more bs i 0 h) ∙ zero_byte e (get_or bs i 0) (drop (i + 1) bs) z
+pub all_zero-skip : (bs : List ℕ) → list_all (λ b. nat_eq b 0) (drop (prefix_len letter_or_digit bs) bs) ≡ padded false bs
+all_zero-skip [] = refl
+all_zero-skip (b ∷ bs) = grind (arith, nat_tests, all_zero-padded bs, all_zero-skip bs, drop-drop (prefix_len letter_or_digit bs) 1 (b ∷ bs))
 
-  pub padded_ended : (get_or bs i 0 ≡ 0 → ⊥) → padded true (drop i bs) ≡ false
-  padded_ended z = ap (padded true) (drop_more bs i 0 h) ∙ ap (λ t. cond t (padded true (drop (i + 1) bs)) false) (ne_eqb (get_or bs i 0) 0 z)
+abbrev pub ended : List ℕ → List ℕ
+ended word = word ++ 0 ∷ []
 
-  within : (get_or bs i 0 ≡ 0 → ⊥) → (t : Bool) → letter_or_digit (get_or bs i 0) ≡ t
-      → padded false (drop i bs) ≡ cond t (padded false (drop (i + 1) bs)) false
-  within z t e =
-      let b = get_or bs i 0 in let rest = drop (i + 1) bs in
-      ap (padded false) (drop_more bs i 0 h)
-      ∙ ap (λ x. cond x (padded true rest) (cond (letter_or_digit b) (padded false rest) false)) (ne_eqb b 0 z)
-      ∙ ap (λ x. cond x (padded false rest) false) e
+starts_with-ended : (bs word : List ℕ) → starts_with nat_eq bs (ended word) ≡ spells word bs
+starts_with-ended [] [] = refl
+starts_with-ended [] (c ∷ word) = refl
+starts_with-ended (b ∷ bs) [] = grind (arith, nat_tests)
+starts_with-ended (b ∷ bs) (c ∷ word) = ap₂ ◌&&◌ (grind (arith, nat_tests)) (starts_with-ended bs word)
 
-  pub padded_more : (get_or bs i 0 ≡ 0 → ⊥) → letter_or_digit (get_or bs i 0) ≡ true → padded false (drop i bs) ≡ padded false (drop (i + 1) bs)
-  padded_more z e = within z true e
+pub any-starts_with : (bs : List ℕ) (words : List (List ℕ)) → list_any (starts_with nat_eq bs) (map ended words) ≡ spells_one words bs
+any-starts_with bs [] = refl
+any-starts_with bs (word ∷ words) = ap₂ ◌||◌ (starts_with-ended bs word) (any-starts_with bs words)
 
-  pub padded_other : (get_or bs i 0 ≡ 0 → ⊥) → letter_or_digit (get_or bs i 0) ≡ false → padded false (drop i bs) ≡ false
-  padded_other z e = within z false e
-
-pub padded_all : (e : Bool) (bs : List ℕ) (i : ℕ) → length bs ≤ i → padded e (drop i bs) ≡ true
-padded_all e bs i h = ap (padded e) (drop_all i bs h) ∙ padded_end e
-
-pub spells_short : (word bs : List ℕ) → length bs ≤ length word → spells word bs ≡ false
-spells_short word [] h = refl
-spells_short [] (b ∷ bs) h = absurd (let z : ⊥ = omega arith in z)
-spells_short (c ∷ word) (b ∷ bs) h = go (eqb b c) (spells_short word bs (omega arith))
-  where
-    go : (t : Bool) → spells word bs ≡ false → cond t (spells word bs) false ≡ false
-    go true e = e
-    go false e = refl
-
-module _ (word bs : List ℕ) (i : ℕ) (h : i < length word) (k : i < length bs) where
-  both_more : spells (drop i word) (drop i bs) ≡ cond (eqb (get_or bs i 0) (get_or word i 0)) (spells (drop (i + 1) word) (drop (i + 1) bs)) false
-  both_more = ap₂ spells (drop_more word i 0 h) (drop_more bs i 0 k)
-
-  pub spells_more : get_or bs i 0 ≡ get_or word i 0 → spells (drop i word) (drop i bs) ≡ spells (drop (i + 1) word) (drop (i + 1) bs)
-  spells_more e = both_more ∙ ap (λ t. cond t (spells (drop (i + 1) word) (drop (i + 1) bs)) false) (eq-eqb _ _ e)
-
-  pub spells_other : (get_or bs i 0 ≡ get_or word i 0 → ⊥) → spells (drop i word) (drop i bs) ≡ false
-  spells_other e = both_more ∙ ap (λ t. cond t (spells (drop (i + 1) word) (drop (i + 1) bs)) false) (ne_eqb _ _ e)
-
-pub spells_all : (word bs : List ℕ) (i n : ℕ) → length word ≤ i → i < length bs → i ≡ n → spells (drop i word) (drop i bs) ≡ eqb (get_or bs n 0) 0
-spells_all word bs i n h k e = ap₂ spells (drop_all i word h) (drop_more bs i 0 k) ∙ ap (λ m. eqb (get_or bs m 0) 0) e
+pub flat_map-two_bytes : (ns : List ℕ) (pairs : List (List ℕ)) → length pairs ≡ length ns
+    → ((i : ℕ) → get_or ns i 0 < 65536) → ((i : ℕ) → i < length ns → get_or pairs i [] ≡ to_be_bytes w16 (get_or ns i 0))
+    → flat_map (λ x. x) pairs ≡ two_bytes ns
+flat_map-two_bytes [] [] len fits each = refl
+flat_map-two_bytes [] (pair ∷ pairs) len fits each = grind arith
+flat_map-two_bytes (n ∷ ns) [] len fits each = grind arith
+flat_map-two_bytes (n ∷ ns) (pair ∷ pairs) len fits each =
+    let front : pair ≡ n / 256 ∷ n % 256 ∷ [] = each 0 (omega arith) ∙ ap (λ high. high ∷ n % 256 ∷ []) (omega (arith, fits 0)) in
+    ap₂ ◌++◌ front (flat_map-two_bytes ns pairs (omega arith) (λ i. fits (suc i)) (λ i l. each (suc i) (omega arith)))

@@ -1,11 +1,9 @@
 -- The checker's tests over line numbers, in the order of the codes. L n is line n, and a line of code 0 where there is none.
-use Rattle.std.specs.Prelude.{ℕ, ◌+◌, Bool, true, false, cond, not, ◌&&◌, ◌||◌, List, take, Some, None, Option, ◌==◌, nat_le, nat_lt}
+use Rattle.std.specs.Prelude.{ℕ, ◌+◌, Bool, true, false, if◌then◌else◌, not, ◌&&◌, List, take, Some, None, Option, ◌==◌, nat_le, nat_lt}
 use Rattle.lines.specs.Stores.{numbered}
 use Rattle.lines.specs.declared.line.Line.{Line}
 use Rattle.rules.specs.Faults.{numbers}
 use Rattle.rules.specs.Names.{is_name, two_bytes}
-use Rattle.rules.specs.Quantifiers.{Rule}
-use Rattle.rules.specs.declared.all_code.AllCode.TheVariants.{Equal, Least}
 
 abbrev pub no_line : Line
 no_line = record { code = 0; c1 = 0; c2 = 0; c3 = 0; c4 = 0; c5 = 0; c6 = 0; c7 = 0 }
@@ -34,30 +32,40 @@ raises L p A j C = (L p).code == 40 && (L p).c1 == A && (L p).c2 == j && (L p).c
 abbrev pub puts : At → (p B j A C : ℕ) → Bool
 puts L p B j A C = (L p).code == 41 && (L p).c1 == B && (L p).c2 == j && (L p).c3 == A && (L p).c4 == C
 
+-- line p has this code, or one of these, and these first columns
+abbrev pub pair : At → (code p c1 c2 : ℕ) → Bool
+pair L code p c1 c2 = (L p).code == code && (L p).c1 == c1 && (L p).c2 == c2
+
+abbrev pub triple : At → (code p c1 c2 c3 : ℕ) → Bool
+triple L code p c1 c2 c3 = pair L code p c1 c2 && (L p).c3 == c3
+
+abbrev pub judged : At → (low high p c1 c2 c3 : ℕ) → Bool
+judged L low high p c1 c2 c3 = in_range low high (L p).code && (L p).c1 == c1 && (L p).c2 == c2 && (L p).c3 == c3
+
 abbrev pub bound_is : At → (p E k B : ℕ) → Bool
-bound_is L p E k B = (L p).code == 42 && (L p).c1 == E && (L p).c2 == k && (L p).c3 == B
+bound_is L = triple L 42
 
 abbrev pub typing_is : At → (p E k A : ℕ) → Bool
-typing_is L p E k A = (L p).code == 43 && (L p).c1 == E && (L p).c2 == k && (L p).c3 == A
+typing_is L = triple L 43
 
 abbrev pub is_env : At → (p E : ℕ) → Bool
 is_env L p E = (L p).code == 50 && (L p).c1 == E
 
 abbrev pub is_type : At → (p E A : ℕ) → Bool
-is_type L p E A = (L p).code == 51 && (L p).c1 == E && (L p).c2 == A
+is_type L = pair L 51
 
 abbrev pub is_sub : At → (p E A B : ℕ) → Bool
-is_sub L p E A B = in_range 60 66 (L p).code && (L p).c1 == E && (L p).c2 == A && (L p).c3 == B
+is_sub L = judged L 60 66
 
 abbrev pub has_type : At → (p E a A : ℕ) → Bool
-has_type L p E a A = in_range 70 79 (L p).code && (L p).c1 == E && (L p).c2 == a && (L p).c3 == A
+has_type L = judged L 70 79
 
 -- line F is E,x:A or E,X<:A
 abbrev pub binds_term : At → (F E A : ℕ) → Bool
-binds_term L F E A = (L F).code == 31 && (L F).c1 == E && (L F).c2 == A
+binds_term L = pair L 31
 
 abbrev pub binds_type : At → (F E A : ℕ) → Bool
-binds_type L F E A = (L F).code == 32 && (L F).c1 == E && (L F).c2 == A
+binds_type L = pair L 32
 
 -- 40: A, j, C, p, q
 abbrev pub raise_top : Line → Bool
@@ -66,7 +74,7 @@ raise_top l = l.c3 == l.c1 && l.c4 == 0 && l.c5 == 0
 abbrev pub raise_var : At → (k : ℕ) → Line → Bool
 raise_var L k l =
     (l.c4 == 0) && l.c5 == 0
-    && cond (nat_le k l.c2) (l.c3 == l.c1) ((L l.c3).code == 11 && (L l.c3).c1 == k + 1)
+    && (if nat_le k l.c2 then l.c3 == l.c1 else (L l.c3).code == 11 && (L l.c3).c1 == k + 1)
 
 abbrev pub raise_arrow : At → (A : Line) → Line → Bool
 raise_arrow L A l =
@@ -81,9 +89,12 @@ raise_rec L A l = (L l.c3).code == 14 && raises L l.c4 A.c1 (l.c2 + 1) (L l.c3).
 
 abbrev pub raise_by : At → (A : Line) → Line → Bool
 raise_by L A l =
-    cond (A.code == 10) (raise_top l)
-    (cond (A.code == 11) (raise_var L A.c1 l)
-    (cond (A.code == 12) (raise_arrow L A l) (cond (A.code == 13) (raise_all L A l) (cond (A.code == 14) (raise_rec L A l) false))))
+    if A.code == 10 then raise_top l
+    else if A.code == 11 then raise_var L A.c1 l
+    else if A.code == 12 then raise_arrow L A l
+    else if A.code == 13 then raise_all L A l
+    else if A.code == 14 then raise_rec L A l
+    else false
 
 abbrev pub raise : At → Line → Bool
 raise L l = raise_by L (L l.c1) l
@@ -98,8 +109,7 @@ put_top l = l.c4 == l.c1 && no_premises l
 abbrev pub put_var : At → (k : ℕ) → Line → Bool
 put_var L k l =
     no_premises l
-    && cond (nat_lt k l.c2) (l.c4 == l.c1)
-    (cond (k == l.c2) (l.c4 == l.c3) ((L l.c4).code == 11 && (L l.c4).c1 + 1 == k))
+    && (if nat_lt k l.c2 then l.c4 == l.c1 else if k == l.c2 then l.c4 == l.c3 else (L l.c4).code == 11 && (L l.c4).c1 + 1 == k)
 
 abbrev pub put_arrow : At → (B : Line) → Line → Bool
 put_arrow L B l =
@@ -118,9 +128,12 @@ put_rec L B l =
 
 abbrev pub put_by : At → (B : Line) → Line → Bool
 put_by L B l =
-    cond (B.code == 10) (put_top l)
-    (cond (B.code == 11) (put_var L B.c1 l)
-    (cond (B.code == 12) (put_arrow L B l) (cond (B.code == 13) (put_all L B l) (cond (B.code == 14) (put_rec L B l) false))))
+    if B.code == 10 then put_top l
+    else if B.code == 11 then put_var L B.c1 l
+    else if B.code == 12 then put_arrow L B l
+    else if B.code == 13 then put_all L B l
+    else if B.code == 14 then put_rec L B l
+    else false
 
 abbrev pub put : At → Line → Bool
 put L l = put_by L (L l.c1) l
@@ -138,8 +151,9 @@ bound_past_term L E l = bound_is L l.c4 E.c1 l.c2 l.c3 && l.c5 == 0
 
 abbrev pub bound_by : At → (E : Line) → Line → Bool
 bound_by L E l =
-    cond (E.code == 31) (bound_past_term L E l)
-    (cond (E.code == 32) (cond (l.c4 == 0) (bound_last L E l) (bound_past_type L E l)) false)
+    if E.code == 31 then bound_past_term L E l
+    else if E.code == 32 then (if l.c4 == 0 then bound_last L E l else bound_past_type L E l)
+    else false
 
 abbrev pub bound : At → Line → Bool
 bound L l = bound_by L (L l.c1) l
@@ -157,8 +171,9 @@ typing_past_type L E l = typing_is L l.c4 E.c1 l.c2 (L l.c4).c3 && raises L l.c5
 
 abbrev pub typing_by : At → (E : Line) → Line → Bool
 typing_by L E l =
-    cond (E.code == 31) (cond (l.c4 == 0) (typing_last E l) (typing_past_term L E l))
-    (cond (E.code == 32) (typing_past_type L E l) false)
+    if E.code == 31 then (if l.c4 == 0 then typing_last E l else typing_past_term L E l)
+    else if E.code == 32 then typing_past_type L E l
+    else false
 
 abbrev pub typing : At → Line → Bool
 typing L l = typing_by L (L l.c1) l
@@ -166,8 +181,10 @@ typing L l = typing_by L (L l.c1) l
 -- 50: E, p
 abbrev pub env_by : At → (E : Line) → Line → Bool
 env_by L E l =
-    cond (E.code == 30) (l.c2 == 0)
-    (cond (E.code == 31) (is_type L l.c2 E.c1 E.c2) (cond (E.code == 32) (is_type L l.c2 E.c1 E.c2) false))
+    if E.code == 30 then l.c2 == 0
+    else if E.code == 31 then is_type L l.c2 E.c1 E.c2
+    else if E.code == 32 then is_type L l.c2 E.c1 E.c2
+    else false
 
 abbrev pub env : At → Line → Bool
 env L l = env_by L (L l.c1) l
@@ -192,9 +209,12 @@ type_rec L A l =
 
 abbrev pub formed_by : At → (A : Line) → Line → Bool
 formed_by L A l =
-    cond (A.code == 10) (type_top L l)
-    (cond (A.code == 11) (type_var L A.c1 l)
-    (cond (A.code == 12) (type_arrow L A l) (cond (A.code == 13) (type_all L A l) (cond (A.code == 14) (type_rec L A l) false))))
+    if A.code == 10 then type_top L l
+    else if A.code == 11 then type_var L A.c1 l
+    else if A.code == 12 then type_arrow L A l
+    else if A.code == 13 then type_all L A l
+    else if A.code == 14 then type_rec L A l
+    else false
 
 abbrev pub formed : At → Line → Bool
 formed L l = formed_by L (L l.c2) l
@@ -229,12 +249,14 @@ sub_all_least L l =
 
 abbrev pub subtype : At → Line → Bool
 subtype L l =
-    cond (l.code == 60) (sub_refl L l)
-    (cond (l.code == 61) (sub_trans L l)
-    (cond (l.code == 62) (sub_var L l)
-    (cond (l.code == 63) (sub_top L l)
-    (cond (l.code == 64) (sub_arrow L l)
-    (cond (l.code == 65) (sub_all_equal L l) (cond (l.code == 66) (sub_all_least L l) false))))))
+    if l.code == 60 then sub_refl L l
+    else if l.code == 61 then sub_trans L l
+    else if l.code == 62 then sub_var L l
+    else if l.code == 63 then sub_top L l
+    else if l.code == 64 then sub_arrow L l
+    else if l.code == 65 then sub_all_equal L l
+    else if l.code == 66 then sub_all_least L l
+    else false
 
 -- 70 to 79: E, a, A, p, q, r
 abbrev pub has_subsumed : At → Line → Bool
@@ -289,15 +311,17 @@ has_rec L l =
 
 abbrev pub typed : At → Line → Bool
 typed L l =
-    cond (l.code == 70) (has_subsumed L l)
-    (cond (l.code == 71) (has_var L l)
-    (cond (l.code == 72) (has_top L l)
-    (cond (l.code == 73) (has_fun L l)
-    (cond (l.code == 74) (has_appl L l)
-    (cond (l.code == 75) (has_fun2 L l)
-    (cond (l.code == 76) (has_appl2 L l)
-    (cond (l.code == 77) (has_fold L l)
-    (cond (l.code == 78) (has_unfold L l) (cond (l.code == 79) (has_rec L l) false)))))))))
+    if l.code == 70 then has_subsumed L l
+    else if l.code == 71 then has_var L l
+    else if l.code == 72 then has_top L l
+    else if l.code == 73 then has_fun L l
+    else if l.code == 74 then has_appl L l
+    else if l.code == 75 then has_fun2 L l
+    else if l.code == 76 then has_appl2 L l
+    else if l.code == 77 then has_fold L l
+    else if l.code == 78 then has_unfold L l
+    else if l.code == 79 then has_rec L l
+    else false
 
 -- 90
 abbrev pub name : Line → Bool
@@ -312,159 +336,33 @@ define_term L d E l = not (E == 0) && l.c6 == d && has_type L l.c4 E l.c3 l.c2 &
 
 -- 11 and 21: a variable's number is not 0
 abbrev pub numbered_variable : (variable : ℕ) → Line → Bool
-numbered_variable variable l = cond (l.code == variable) (not (l.c1 == 0)) true
+numbered_variable variable l = if l.code == variable then not (l.c1 == 0) else true
 
 -- cause 5: the line follows
 abbrev pub follows : At → (d E : ℕ) → Line → Bool
 follows L d E l =
-    cond (in_range 10 14 l.code) (numbered_variable 11 l)
-    (cond (in_range 20 28 l.code) (numbered_variable 21 l)
-    (cond (in_range 30 32 l.code) true
-    (cond (l.code == 40) (raise L l)
-    (cond (l.code == 41) (put L l)
-    (cond (l.code == 42) (bound L l)
-    (cond (l.code == 43) (typing L l)
-    (cond (l.code == 50) (env L l)
-    (cond (l.code == 51) (formed L l)
-    (cond (in_range 60 66 l.code) (subtype L l)
-    (cond (in_range 70 79 l.code) (typed L l)
-    (cond (l.code == 90) (name l)
-    (cond (l.code == 91) (define_type L d E l) (cond (l.code == 92) (define_term L d E l) false)))))))))))))
-
--- cause 1: the code is in the table and admitted
-abbrev pub known : Rule → (c : ℕ) → Bool
-known R c =
-    cond (c == 65) (R.admits Equal)
-    (cond (c == 66) (R.admits Least)
-    (cond (in_range 10 14 c) true
-    (cond (in_range 20 28 c) true
-    (cond (in_range 30 32 c) true
-    (cond (in_range 40 43 c) true
-    (cond (in_range 50 51 c) true
-    (cond (in_range 60 64 c) true (cond (in_range 70 79 c) true (cond (in_range 90 92 c) true false)))))))))
-
--- cause 2: the columns from the first, the second .. on are 0
-abbrev pub zero_from_7 : Line → Bool
-zero_from_7 l = l.c7 == 0
-
-abbrev pub zero_from_6 : Line → Bool
-zero_from_6 l = l.c6 == 0 && zero_from_7 l
-
-abbrev pub zero_from_5 : Line → Bool
-zero_from_5 l = l.c5 == 0 && zero_from_6 l
-
-abbrev pub zero_from_3 : Line → Bool
-zero_from_3 l = l.c3 == 0 && l.c4 == 0 && zero_from_5 l
-
-abbrev pub zero_from_2 : Line → Bool
-zero_from_2 l = l.c2 == 0 && zero_from_3 l
-
-abbrev pub zero_from_1 : Line → Bool
-zero_from_1 l = l.c1 == 0 && zero_from_2 l
-
-abbrev pub zero_past : Line → Bool
-zero_past l =
-    cond (l.code == 10) (zero_from_1 l)
-    (cond (l.code == 11) (zero_from_2 l)
-    (cond (in_range 12 13 l.code) (zero_from_3 l)
-    (cond (l.code == 14) (zero_from_2 l)
-    (cond (l.code == 20) (zero_from_1 l)
-    (cond (l.code == 21) (zero_from_2 l)
-    (cond (in_range 22 26 l.code) (zero_from_3 l)
-    (cond (l.code == 27) (zero_from_2 l)
-    (cond (l.code == 28) (zero_from_3 l)
-    (cond (l.code == 30) (zero_from_1 l)
-    (cond (in_range 31 32 l.code) (zero_from_3 l)
-    (cond (l.code == 40) (zero_from_6 l)
-    (cond (in_range 42 43 l.code) (zero_from_6 l)
-    (cond (l.code == 50) (zero_from_3 l)
-    (cond (l.code == 51) (zero_from_5 l)
-    (cond (in_range 60 66 l.code) (zero_from_6 l)
-    (cond (in_range 70 79 l.code) (zero_from_7 l) (cond (in_range 91 92 l.code) (zero_from_7 l) true)))))))))))))))))
-
--- cause 3: each line that is named is earlier and of its kind
-abbrev pub is_kind : At → (low high m : ℕ) → Bool
-is_kind L low high m = in_range low high (L m).code
-
-abbrev pub a_type : At → (m : ℕ) → Bool
-a_type L m = is_kind L 10 14 m
-
-abbrev pub a_term : At → (m : ℕ) → Bool
-a_term L m = is_kind L 20 28 m
-
-abbrev pub an_env : At → (m : ℕ) → Bool
-an_env L m = is_kind L 30 32 m
-
-abbrev pub a_name : At → (m : ℕ) → Bool
-a_name L m = is_kind L 90 90 m
-
-abbrev pub a_premise : At → (m : ℕ) → Bool
-a_premise L m = m == 0 || is_kind L 40 79 m
-
-abbrev pub a_definition : At → (m : ℕ) → Bool
-a_definition L m = m == 0 || is_kind L 91 92 m
-
-abbrev pub type_named : At → Line → Bool
-type_named L l =
-    cond (in_range 12 13 l.code) (a_type L l.c1 && a_type L l.c2) (cond (l.code == 14) (a_type L l.c1) true)
-
-abbrev pub term_named : At → Line → Bool
-term_named L l =
-    cond (l.code == 22) (a_type L l.c1 && a_term L l.c2)
-    (cond (l.code == 23) (a_term L l.c1 && a_term L l.c2)
-    (cond (l.code == 24) (a_type L l.c1 && a_term L l.c2)
-    (cond (l.code == 25) (a_term L l.c1 && a_type L l.c2)
-    (cond (l.code == 26) (a_type L l.c1 && a_term L l.c2)
-    (cond (l.code == 27) (a_term L l.c1) (cond (l.code == 28) (a_type L l.c1 && a_term L l.c2) true))))))
-
-abbrev pub env_named : At → Line → Bool
-env_named L l = cond (in_range 31 32 l.code) (an_env L l.c1 && a_type L l.c2) true
-
-abbrev pub raise_named : At → Line → Bool
-raise_named L l = a_type L l.c1 && a_type L l.c3 && a_premise L l.c4 && a_premise L l.c5
-
-abbrev pub put_named : At → Line → Bool
-put_named L l =
-    a_type L l.c1 && a_type L l.c3 && a_type L l.c4 && a_premise L l.c5 && a_premise L l.c6 && a_premise L l.c7
-
-abbrev pub variable_named : At → Line → Bool
-variable_named L l = an_env L l.c1 && a_type L l.c3 && a_premise L l.c4 && a_premise L l.c5
-
-abbrev pub formed_named : At → Line → Bool
-formed_named L l = an_env L l.c1 && a_type L l.c2 && a_premise L l.c3 && a_premise L l.c4
-
-abbrev pub subtype_named : At → Line → Bool
-subtype_named L l = an_env L l.c1 && a_type L l.c2 && a_type L l.c3 && a_premise L l.c4 && a_premise L l.c5
-
-abbrev pub typed_named : At → Line → Bool
-typed_named L l =
-    an_env L l.c1 && a_term L l.c2 && a_type L l.c3 && a_premise L l.c4 && a_premise L l.c5 && a_premise L l.c6
-
-abbrev pub let_type_named : At → Line → Bool
-let_type_named L l =
-    a_name L l.c1 && a_type L l.c2 && a_type L l.c3 && a_premise L l.c4 && an_env L l.c5 && a_definition L l.c6
-
-abbrev pub let_term_named : At → Line → Bool
-let_term_named L l =
-    a_name L l.c1 && a_type L l.c2 && a_term L l.c3 && a_premise L l.c4 && an_env L l.c5 && a_definition L l.c6
-
-abbrev pub named : At → Line → Bool
-named L l =
-    cond (in_range 10 14 l.code) (type_named L l)
-    (cond (in_range 20 28 l.code) (term_named L l)
-    (cond (in_range 30 32 l.code) (env_named L l)
-    (cond (l.code == 40) (raise_named L l)
-    (cond (l.code == 41) (put_named L l)
-    (cond (in_range 42 43 l.code) (variable_named L l)
-    (cond (l.code == 50) (an_env L l.c1 && a_premise L l.c2)
-    (cond (l.code == 51) (formed_named L l)
-    (cond (in_range 60 66 l.code) (subtype_named L l)
-    (cond (in_range 70 79 l.code) (typed_named L l)
-    (cond (l.code == 91) (let_type_named L l) (cond (l.code == 92) (let_term_named L l) true)))))))))))
+    if in_range 10 14 l.code then numbered_variable 11 l
+    else if in_range 20 28 l.code then numbered_variable 21 l
+    else if in_range 30 32 l.code then true
+    else if l.code == 40 then raise L l
+    else if l.code == 41 then put L l
+    else if l.code == 42 then bound L l
+    else if l.code == 43 then typing L l
+    else if l.code == 50 then env L l
+    else if l.code == 51 then formed L l
+    else if in_range 60 66 l.code then subtype L l
+    else if in_range 70 79 l.code then typed L l
+    else if l.code == 90 then name l
+    else if l.code == 91 then define_type L d E l
+    else if l.code == 92 then define_term L d E l
+    else false
 
 -- the latest definition and the session environment after line n, which is l
 abbrev pub latest_after : (d n : ℕ) → Line → ℕ
-latest_after d n l = cond (in_range 91 92 l.code) n d
+latest_after d n l = if in_range 91 92 l.code then n else d
 
 abbrev pub env_after : (E n : ℕ) → Line → ℕ
-env_after E n l = cond (in_range 91 92 l.code) l.c5 (cond (l.code == 30) n E)
+env_after E n l =
+    if in_range 91 92 l.code then l.c5
+    else if l.code == 30 then n
+    else E

@@ -1,4 +1,4 @@
 pub mod Checked
+pub mod Columns
 pub mod Decide
-pub mod Indexes
-pub mod Ready
+pub mod Seen

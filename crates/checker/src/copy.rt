@@ -4,24 +4,21 @@ ghost use Rattle.std.specs.Prelude.{◌≡◌, ◌≤◌, length, IfOk};
 ghost use Rattle.checker.specs.Checked.{Checked};
 
 use crate::listing::check_lines;
-use crate::premise::line;
-use lines::{Answer, Line, LineStore};
+use lines::{Line, LineStore, Unsound};
 use rules::Quantifier;
 use std::alloc::{AllocError, Global};
 use tables::LineTable;
 
-pub(crate) fn copied<S: LineStore>(s: &S, heap: Global) -> Result<Vec<Line>, AllocError>
-    ensures { IfOk result (λ v. v.items ≡ S.lines s.now) }
+pub(crate) fn copied<S: LineStore>(store: &S, heap: Global) -> Result<Vec<Line>, AllocError>
+    ensures { IfOk result (λ v. v.items ≡ S.lines store.now) }
 {
-    let count = s.count();
-    let mut all = Vec::with_capacity(heap, count as usize)?;
-    for n in 0..count {
-        all.push(line(s, count, n + 1))?;
-    }
-    Ok(all)
+    store.iter().collect(heap)
 }
 
-pub(crate) fn check_records<Q: Quantifier>(records: &mut [Line], heap: Global) -> Answer
+pub(crate) fn check_records<Q: Quantifier>(
+    records: &mut [Line],
+    heap: Global,
+) -> Result<u16, Unsound>
     requires { length records.old ≤ 65535 }
     ensures { Checked Q.rule records.old result }
 {

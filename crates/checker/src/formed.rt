@@ -2,70 +2,69 @@
 // 51: A is a type in E. Columns E, A and two premises.
 
 ghost use Rattle.std.specs.Prelude.{◌≡◌};
-ghost use Rattle.checker.specs.Decide.{earlier, env, formed, type_top, type_var, type_arrow, type_all, type_rec};
+ghost use Rattle.checker.specs.Decide.{at, env, formed, type_top, type_var, type_arrow, type_all, type_rec};
 
-use crate::premise::{binds_type, bound_is, is_env, is_type, line};
+use crate::prefix::Prefix;
 use lines::{Line, LineStore, code};
 
-pub(crate) fn env<S: LineStore>(s: &S, n: u16, l: Line) -> bool
-    ensures { result ≡ env (earlier (S.lines s.now) n) l }
+pub(crate) fn env<S: LineStore>(before: &Prefix<S>, l: Line) -> bool
+    ensures { result ≡ env (at before.now) l }
 {
-    let e = line(s, n, l.c1);
+    let e = before.line(l.c1);
     match e.code {
         code::ENV_EMPTY => l.c2 == 0,
-        code::ENV_TERM => is_type(s, n, l.c2, e.c1, e.c2),
-        code::ENV_TYPE => is_type(s, n, l.c2, e.c1, e.c2),
+        code::ENV_TERM | code::ENV_TYPE => before.is_type(l.c2, e.c1, e.c2),
         _ => false,
     }
 }
 
-fn type_top<S: LineStore>(s: &S, n: u16, l: Line) -> bool
-    ensures { result ≡ type_top (earlier (S.lines s.now) n) l }
+fn type_top<S: LineStore>(before: &Prefix<S>, l: Line) -> bool
+    ensures { result ≡ type_top (at before.now) l }
 {
-    is_env(s, n, l.c3, l.c1) && l.c4 == 0
+    before.is_env(l.c3, l.c1) && l.c4 == 0
 }
 
-fn type_var<S: LineStore>(s: &S, n: u16, k: u16, l: Line) -> bool
-    ensures { result ≡ type_var (earlier (S.lines s.now) n) k l }
+fn type_var<S: LineStore>(before: &Prefix<S>, k: u16, l: Line) -> bool
+    ensures { result ≡ type_var (at before.now) k l }
 {
-    let bound = line(s, n, l.c4).c3;
-    is_env(s, n, l.c3, l.c1) && bound_is(s, n, l.c4, l.c1, k, bound)
+    let bound = before.line(l.c4).c3;
+    before.is_env(l.c3, l.c1) && before.bound_is(l.c4, l.c1, k, bound)
 }
 
-fn type_arrow<S: LineStore>(s: &S, n: u16, a: Line, l: Line) -> bool
-    ensures { result ≡ type_arrow (earlier (S.lines s.now) n) a l }
+fn type_arrow<S: LineStore>(before: &Prefix<S>, a: Line, l: Line) -> bool
+    ensures { result ≡ type_arrow (at before.now) a l }
 {
-    is_type(s, n, l.c3, l.c1, a.c1) && is_type(s, n, l.c4, l.c1, a.c2)
+    before.is_type(l.c3, l.c1, a.c1) && before.is_type(l.c4, l.c1, a.c2)
 }
 
-fn type_all<S: LineStore>(s: &S, n: u16, a: Line, l: Line) -> bool
-    ensures { result ≡ type_all (earlier (S.lines s.now) n) a l }
+fn type_all<S: LineStore>(before: &Prefix<S>, a: Line, l: Line) -> bool
+    ensures { result ≡ type_all (at before.now) a l }
 {
-    let f = line(s, n, l.c3).c1;
-    is_type(s, n, l.c3, f, a.c2) && binds_type(s, n, f, l.c1, a.c1) && l.c4 == 0
+    let f = before.line(l.c3).c1;
+    before.is_type(l.c3, f, a.c2) && before.binds_type(f, l.c1, a.c1) && l.c4 == 0
 }
 
-fn type_rec<S: LineStore>(s: &S, n: u16, a: Line, l: Line) -> bool
-    ensures { result ≡ type_rec (earlier (S.lines s.now) n) a l }
+fn type_rec<S: LineStore>(before: &Prefix<S>, a: Line, l: Line) -> bool
+    ensures { result ≡ type_rec (at before.now) a l }
 {
-    let f = line(s, n, l.c3).c1;
-    let t = line(s, n, f).c2;
-    is_type(s, n, l.c3, f, a.c1)
-        && binds_type(s, n, f, l.c1, t)
-        && line(s, n, t).code == code::TYPE_TOP
+    let f = before.line(l.c3).c1;
+    let t = before.line(f).c2;
+    before.is_type(l.c3, f, a.c1)
+        && before.binds_type(f, l.c1, t)
+        && before.line(t).code == code::TYPE_TOP
         && l.c4 == 0
 }
 
-pub(crate) fn formed<S: LineStore>(s: &S, n: u16, l: Line) -> bool
-    ensures { result ≡ formed (earlier (S.lines s.now) n) l }
+pub(crate) fn formed<S: LineStore>(before: &Prefix<S>, l: Line) -> bool
+    ensures { result ≡ formed (at before.now) l }
 {
-    let a = line(s, n, l.c2);
+    let a = before.line(l.c2);
     match a.code {
-        code::TYPE_TOP => type_top(s, n, l),
-        code::TYPE_VAR => type_var(s, n, a.c1, l),
-        code::TYPE_ARROW => type_arrow(s, n, a, l),
-        code::TYPE_ALL => type_all(s, n, a, l),
-        code::TYPE_REC => type_rec(s, n, a, l),
+        code::TYPE_TOP => type_top(before, l),
+        code::TYPE_VAR => type_var(before, a.c1, l),
+        code::TYPE_ARROW => type_arrow(before, a, l),
+        code::TYPE_ALL => type_all(before, a, l),
+        code::TYPE_REC => type_rec(before, a, l),
         _ => false,
     }
 }

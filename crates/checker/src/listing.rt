@@ -1,81 +1,64 @@
 // The whole listing, line by line.
 
-ghost use Rattle.std.specs.Prelude.{◌≡◌, ℕ, ◌+◌, ◌≤◌, length, take};
+ghost use Rattle.std.specs.Prelude.{◌≡◌, [], ◌∷◌, ◌++◌, None};
 ghost use Rattle.checker.specs.Checked.{Checked, Tested};
-ghost use Rattle.checker.specs.Decide.{latest_after, env_after};
-ghost use Rattle.checker.specs.Ready.{Ready};
+ghost use Rattle.checker.specs.Seen.{Holds};
 
-use crate::column::{known, zero_past};
+use crate::column::{kinds, zero_past};
 use crate::definition::Session;
 use crate::follow::follows;
-use crate::index::Index;
-use crate::premise::line;
+use crate::prefix::Prefix;
 use crate::reference::named;
-use lines::{Answer, Cause, Line, LineStore, code};
+use crate::seen::Seen;
+use lines::{Cause, Line, LineStore, Unsound};
 use rules::Quantifier;
 use std::alloc::Global;
 
-// The first cause that holds of line n + 1, which is l.
+// The first cause that holds of the line l after these.
 fn fault<Q: Quantifier, S: LineStore>(
-    s: &S,
-    n: u16,
-    index: &Index,
+    before: &Prefix<S>,
+    seen: &mut Seen,
     session: Session,
     l: Line,
 ) -> Option<Cause>
-    requires within { n ≤ length (S.lines s.now) }
-    requires ready { (count : ℕ) × Ready (S.lines s.now) n count index.now }
-    ensures { Tested Q.rule (take n (S.lines s.now)) session.latest session.env l result }
+    requires { Holds seen.old before.now }
+    ensures tested { Tested Q.rule before.now session.latest session.env l result }
+    ensures seen { result ≡ None → Holds seen.new (before.now ++ l ∷ []) }
 {
-    if !known::<Q>(l.code) {
+    let Some(kinds) = kinds::<Q>(l.code) else {
         return Some(Cause::Code);
-    }
-    if !zero_past(l) {
+    };
+    if !zero_past(kinds, l) {
         return Some(Cause::Column);
     }
-    if !named(s, n, l) {
+    if !named(before, kinds, l) {
         return Some(Cause::Reference);
     }
-    if index.repeats(s, n, l) {
+    if seen.repeats(before, l) {
         return Some(Cause::Repeated);
     }
-    if !follows(s, n, session, l) {
+    if !follows(before, session, l) {
         return Some(Cause::Unfounded);
     }
     None
 }
 
-// The session after line n, which is l.
-fn session_after(session: Session, n: u16, l: Line) -> Session
-    ensures latest { result.latest ≡ latest_after session.latest n l }
-    ensures env { result.env ≡ env_after session.env n l }
+pub(crate) fn check_lines<Q: Quantifier, S: LineStore>(
+    store: &S,
+    heap: Global,
+) -> Result<u16, Unsound>
+    ensures { Checked Q.rule (S.lines store.now) result }
 {
-    match l.code {
-        code::LET_TYPE..=code::LET_TERM => Session {
-            latest: n,
-            env: l.c5,
-        },
-        code::ENV_EMPTY => Session {
-            latest: session.latest,
-            env: n,
-        },
-        _ => session,
-    }
-}
-
-pub(crate) fn check_lines<Q: Quantifier, S: LineStore>(s: &S, heap: Global) -> Answer
-    ensures { Checked Q.rule (S.lines s.now) result }
-{
-    let count = s.count();
-    let mut index = Index::new(heap, count);
-    let mut session = Session { latest: 0, env: 0 };
+    let count = store.count();
+    let mut seen = Seen::new(heap, count);
+    let mut session = Session::default();
     for n in 0..count {
-        let l = line(s, count, n + 1);
-        if let Some(cause) = fault::<Q, S>(s, n, &index, session, l) {
-            return Answer::Unsound(n + 1, cause);
+        let before = Prefix::new(store, n);
+        let l = store.get(n + 1).unwrap_or_default();
+        if let Some(cause) = fault::<Q, S>(&before, &mut seen, session, l) {
+            return Err(Unsound { line: n + 1, cause });
         }
-        index.add(n, l);
-        session = session_after(session, n + 1, l);
+        session = session.after(n + 1, l);
     }
-    Answer::Granted(count)
+    Ok(count)
 }

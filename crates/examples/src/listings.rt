@@ -3,20 +3,9 @@
 use checker::check;
 use lines::{Answer, Cause, Line, LineStore};
 use page::Page;
-use rules::{EqualBounds, LeastBound};
+use rules::{EqualBounds, LeastBound, Quantifier};
 use std::alloc::Global;
 use tables::LineTable;
-
-const NONE: Line = Line {
-    code: 0,
-    c1: 0,
-    c2: 0,
-    c3: 0,
-    c4: 0,
-    c5: 0,
-    c6: 0,
-    c7: 0,
-};
 
 fn row(code: u8, columns: [u16; 5]) -> Line {
     let [c1, c2, c3, c4, c5] = columns;
@@ -27,23 +16,15 @@ fn row(code: u8, columns: [u16; 5]) -> Line {
         c3,
         c4,
         c5,
-        c6: 0,
-        c7: 0,
+        ..Line::default()
     }
 }
 
-fn equal_bounds(heap: Global, records: &mut [Line]) -> Answer {
+fn answer<Q: Quantifier>(heap: Global, records: &mut [Line]) -> Answer {
     let n = records.len();
     let mut table = LineTable::new(records);
     let _ = table.adopt(n);
-    check::<EqualBounds, LineTable>(&table, heap)
-}
-
-fn least_bound(heap: Global, records: &mut [Line]) -> Answer {
-    let n = records.len();
-    let mut table = LineTable::new(records);
-    let _ = table.adopt(n);
-    check::<LeastBound, LineTable>(&table, heap)
+    Answer::from(check::<Q, LineTable>(&table, heap))
 }
 
 // Top is a type in the empty environment.
@@ -58,14 +39,20 @@ fn top_is_a_type() -> [Line; 4] {
 
 #[test]
 fn empty_listing_is_sound(rt: HostRuntime) {
-    let mut records = [NONE; 0];
-    assert_eq!(rt; equal_bounds(rt.alloc(), &mut records), Answer::Granted(0));
+    let mut records = [Line::default(); 0];
+    assert_eq!(rt;
+        answer::<EqualBounds>(rt.alloc(), &mut records),
+        Answer::Granted(0)
+    );
 }
 
 #[test]
 fn top_is_accepted(rt: HostRuntime) {
     let mut records = top_is_a_type();
-    assert_eq!(rt; equal_bounds(rt.alloc(), &mut records), Answer::Granted(4));
+    assert_eq!(rt;
+        answer::<EqualBounds>(rt.alloc(), &mut records),
+        Answer::Granted(4)
+    );
 }
 
 #[test]
@@ -76,7 +63,7 @@ fn top_is_accepted_on_a_page(rt: HostRuntime) {
         let _ = page.put(line);
     }
     assert_eq!(rt;
-        check::<EqualBounds, Page>(&page, rt.alloc()),
+        Answer::from(check::<EqualBounds, Page>(&page, rt.alloc())),
         Answer::Granted(4)
     );
 }
@@ -85,7 +72,7 @@ fn top_is_accepted_on_a_page(rt: HostRuntime) {
 fn unknown_code(rt: HostRuntime) {
     let mut records = [row(30, [0, 0, 0, 0, 0]), row(15, [0, 0, 0, 0, 0])];
     assert_eq!(rt;
-        equal_bounds(rt.alloc(), &mut records),
+        answer::<EqualBounds>(rt.alloc(), &mut records),
         Answer::Unsound(2, Cause::Code)
     );
 }
@@ -94,11 +81,11 @@ fn unknown_code(rt: HostRuntime) {
 fn code_that_is_not_admitted(rt: HostRuntime) {
     let mut records = [row(66, [0, 0, 0, 0, 0])];
     assert_eq!(rt;
-        equal_bounds(rt.alloc(), &mut records),
+        answer::<EqualBounds>(rt.alloc(), &mut records),
         Answer::Unsound(1, Cause::Code)
     );
     assert_eq!(rt;
-        least_bound(rt.alloc(), &mut records),
+        answer::<LeastBound>(rt.alloc(), &mut records),
         Answer::Unsound(1, Cause::Reference)
     );
 }
@@ -107,7 +94,7 @@ fn code_that_is_not_admitted(rt: HostRuntime) {
 fn column_past_the_last(rt: HostRuntime) {
     let mut records = [row(10, [0, 0, 0, 0, 1])];
     assert_eq!(rt;
-        equal_bounds(rt.alloc(), &mut records),
+        answer::<EqualBounds>(rt.alloc(), &mut records),
         Answer::Unsound(1, Cause::Column)
     );
 }
@@ -116,7 +103,7 @@ fn column_past_the_last(rt: HostRuntime) {
 fn line_that_names_itself(rt: HostRuntime) {
     let mut records = [row(51, [1, 1, 1, 0, 0])];
     assert_eq!(rt;
-        equal_bounds(rt.alloc(), &mut records),
+        answer::<EqualBounds>(rt.alloc(), &mut records),
         Answer::Unsound(1, Cause::Reference)
     );
 }
@@ -129,7 +116,7 @@ fn repeated_line(rt: HostRuntime) {
         row(10, [0, 0, 0, 0, 0]),
     ];
     assert_eq!(rt;
-        equal_bounds(rt.alloc(), &mut records),
+        answer::<EqualBounds>(rt.alloc(), &mut records),
         Answer::Unsound(3, Cause::Repeated)
     );
 }
@@ -138,7 +125,7 @@ fn repeated_line(rt: HostRuntime) {
 fn variable_without_number(rt: HostRuntime) {
     let mut records = [row(11, [0, 0, 0, 0, 0])];
     assert_eq!(rt;
-        equal_bounds(rt.alloc(), &mut records),
+        answer::<EqualBounds>(rt.alloc(), &mut records),
         Answer::Unsound(1, Cause::Unfounded)
     );
 }
@@ -153,7 +140,7 @@ fn premise_of_another_environment(rt: HostRuntime) {
         row(51, [3, 2, 4, 0, 0]),
     ];
     assert_eq!(rt;
-        equal_bounds(rt.alloc(), &mut records),
+        answer::<EqualBounds>(rt.alloc(), &mut records),
         Answer::Unsound(5, Cause::Unfounded)
     );
 }
@@ -174,12 +161,15 @@ fn raising_under_a_binder(rt: HostRuntime) {
         row(40, [4, 1, 6, 8, 9]),
         row(40, [5, 0, 7, 10, 0]),
     ];
-    assert_eq!(rt; equal_bounds(rt.alloc(), &mut records), Answer::Granted(11));
+    assert_eq!(rt;
+        answer::<EqualBounds>(rt.alloc(), &mut records),
+        Answer::Granted(11)
+    );
     if let Some(last) = records.last_mut() {
         *last = row(40, [5, 1, 7, 10, 0]);
     }
     assert_eq!(rt;
-        equal_bounds(rt.alloc(), &mut records),
+        answer::<EqualBounds>(rt.alloc(), &mut records),
         Answer::Unsound(11, Cause::Unfounded)
     );
 }

@@ -5,17 +5,6 @@ use page::Page;
 use std::test::Fail;
 use tables::LineTable;
 
-const NONE: Line = Line {
-    code: 0,
-    c1: 0,
-    c2: 0,
-    c3: 0,
-    c4: 0,
-    c5: 0,
-    c6: 0,
-    c7: 0,
-};
-
 const LAST: Line = Line {
     code: 255,
     c1: 65535,
@@ -46,11 +35,11 @@ fn put_get_cut<S: LineStore>(s: &mut S) -> Result<(), Fail> {
     same(s.count(), 0)?;
     same(s.room(), 2)?;
     same(s.put(LAST), Ok(1))?;
-    same(s.put(NONE), Ok(2))?;
-    same(s.put(NONE), Err(StoreFault { count: 2 }))?;
+    same(s.put(Line::default()), Ok(2))?;
+    same(s.put(Line::default()), Err(StoreFault { count: 2 }))?;
     same(s.get(0), None)?;
     same(s.get(1), Some(LAST))?;
-    same(s.get(2), Some(NONE))?;
+    same(s.get(2), Some(Line::default()))?;
     same(s.get(3), None)?;
     s.cut(3);
     same(s.count(), 2)?;
@@ -62,7 +51,7 @@ fn put_get_cut<S: LineStore>(s: &mut S) -> Result<(), Fail> {
 
 #[test]
 fn table() -> Result<(), Fail> {
-    let mut slots = [NONE; 2];
+    let mut slots = [Line::default(); 2];
     put_get_cut(&mut LineTable::new(&mut slots))
 }
 
@@ -80,9 +69,9 @@ fn no_room(rt: HostRuntime) {
     let mut bytes = [b'x'; 45];
     let mut page = Page::new(&mut bytes);
     assert_eq!(rt; page.room(), 0);
-    assert_eq!(rt; page.put(NONE), Err(StoreFault { count: 0 }));
-    assert_eq!(rt; page.adopt(0), Answer::Granted(0));
-    assert_eq!(rt; page.adopt(1), Answer::OutOfForm(1));
+    assert_eq!(rt; page.put(Line::default()), Err(StoreFault { count: 0 }));
+    assert_eq!(rt; Answer::from(page.adopt(0)), Answer::Granted(0));
+    assert_eq!(rt; Answer::from(page.adopt(1)), Answer::OutOfForm(1));
 }
 
 #[test]
@@ -90,8 +79,8 @@ fn places_in_and_out_of_form(rt: HostRuntime) {
     let mut bytes =
         *b" 30     0     0     0     0     0     0     0\n010     0     0     0     0     0     0     0\n";
     let mut page = Page::new(&mut bytes);
-    assert_eq!(rt; page.adopt(1), Answer::Granted(1));
-    assert_eq!(rt; page.adopt(2), Answer::OutOfForm(2));
+    assert_eq!(rt; Answer::from(page.adopt(1)), Answer::Granted(1));
+    assert_eq!(rt; Answer::from(page.adopt(2)), Answer::OutOfForm(2));
     assert_eq!(rt; page.count(), 1);
-    assert_eq!(rt; page.adopt(3), Answer::OutOfForm(2));
+    assert_eq!(rt; Answer::from(page.adopt(3)), Answer::OutOfForm(2));
 }

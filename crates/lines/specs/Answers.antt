@@ -1,9 +1,10 @@
 -- The closed table of answers: the number and the place that each one prints, and the cause of 13.
-use Rattle.std.specs.Prelude.{ℕ}
+use Rattle.std.specs.Prelude.{ℕ, List, Ok, Err, Result, codes}
 use Rattle.lines.specs.declared.answer.Answer.{Answer}
 use Rattle.lines.specs.declared.answer.Answer.TheVariants.{Granted, Fails, SourceTooLong, NoToken, OpenComment, LongName, Unexpected, TooDeep, TreeFull, Unbound, StepsSpent, GoalsFull, StoreFull, Unsound, OutOfForm, PastCount}
 use Rattle.lines.specs.declared.answer.Cause.{Cause}
 use Rattle.lines.specs.declared.answer.Cause.TheVariants.{Code, Column, Reference, Repeated, Unfounded}
+use Rattle.lines.specs.declared.fault.Unsound.{Unsound as UnsoundFault}
 
 abbrev pub cause_number : Cause → ℕ
 cause_number Code = 1
@@ -11,6 +12,14 @@ cause_number Column = 2
 cause_number Reference = 3
 cause_number Repeated = 4
 cause_number Unfounded = 5
+
+-- the cause in words
+abbrev pub cause_text : Cause → List ℕ
+cause_text Code = codes "its code is unknown or not admitted"
+cause_text Column = codes "a column past those of its code is not 0"
+cause_text Reference = codes "a line that it names is not earlier or not of that kind"
+cause_text Repeated = codes "an equal line stands earlier"
+cause_text Unfounded = codes "it does not follow"
 
 abbrev pub number : Answer → ℕ
 number (Granted n) = 0
@@ -65,3 +74,8 @@ cause_of StoreFull = 0
 cause_of (Unsound n c) = cause_number c
 cause_of (OutOfForm n) = 0
 cause_of (PastCount n) = 0
+
+-- what is printed of a listing that was checked: the count of a sound one, or the fault
+abbrev pub answer_to : Result ℕ UnsoundFault → Answer
+answer_to (Ok n) = Granted n
+answer_to (Err fault) = Unsound fault.line fault.cause

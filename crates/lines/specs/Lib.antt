@@ -1,3 +1,4 @@
 pub mod Adopts
 pub mod Answers
+pub mod Lines
 pub mod Stores

@@ -1,21 +1,23 @@
 // The answers of all calls: a closed table. An answer is a number, a place and, for an unsound listing, a cause.
 
-ghost use Rattle.lines.specs.Answers.{number, place, cause_of, cause_number};
-ghost use Rattle.std.specs.Prelude.{◌≡◌};
+ghost use Rattle.lines.specs.Answers.{number, place, cause_of, cause_number, cause_text};
+ghost use Rattle.std.specs.Prelude.{◌≡◌, Some};
 
-// Why a line is at fault: the first of these that holds of it.
+use std::fmt;
+
+// Why a line is at fault: the first of these that holds of it. Its number is what it is written as.
 #[derive(Clone, Copy, PartialEq, Eq, Debug)]
 pub enum Cause {
     // its code is unknown or not admitted
-    Code,
+    Code = 1,
     // a column past those of its code is not 0
-    Column,
+    Column = 2,
     // a line that it names is not earlier, or not of the kind that is named
-    Reference,
+    Reference = 3,
     // an equal line stands earlier
-    Repeated,
+    Repeated = 4,
     // it does not follow
-    Unfounded,
+    Unfounded = 5,
 }
 
 #[derive(Clone, Copy, PartialEq, Eq, Debug)]
@@ -58,13 +60,21 @@ impl Cause {
     pub fn number(self) -> u8
         ensures { result ≡ cause_number self }
     {
-        match self {
-            Cause::Code => 1,
-            Cause::Column => 2,
-            Cause::Reference => 3,
-            Cause::Repeated => 4,
-            Cause::Unfounded => 5,
-        }
+        self as u8
+    }
+}
+
+impl fmt::Display for Cause {
+    ghost output = { λ cause. Some (cause_text cause) };
+
+    fn fmt<W: fmt::Write>(&self, f: &mut fmt::Formatter<W>) -> fmt::Result {
+        f.write_str(match self {
+            Cause::Code => "its code is unknown or not admitted",
+            Cause::Column => "a column past those of its code is not 0",
+            Cause::Reference => "a line that it names is not earlier or not of that kind",
+            Cause::Repeated => "an equal line stands earlier",
+            Cause::Unfounded => "it does not follow",
+        })
     }
 }
 
@@ -96,22 +106,20 @@ impl Answer {
         ensures { result ≡ place self }
     {
         match self {
-            Answer::Granted(n) => n as u32,
-            Answer::Fails(n) => n as u32,
-            Answer::SourceTooLong => 65535,
-            Answer::NoToken(n) => n as u32,
-            Answer::OpenComment(n) => n as u32,
-            Answer::LongName(n) => n as u32,
-            Answer::Unexpected(n) => n as u32,
-            Answer::TooDeep(n) => n as u32,
-            Answer::TreeFull(n) => n as u32,
-            Answer::Unbound(n) => n as u32,
-            Answer::StepsSpent => 0,
-            Answer::GoalsFull => 0,
-            Answer::StoreFull => 0,
-            Answer::Unsound(n, _) => n as u32,
+            Answer::Granted(n)
+            | Answer::Fails(n)
+            | Answer::NoToken(n)
+            | Answer::OpenComment(n)
+            | Answer::LongName(n)
+            | Answer::Unexpected(n)
+            | Answer::TooDeep(n)
+            | Answer::TreeFull(n)
+            | Answer::Unbound(n)
+            | Answer::Unsound(n, _)
+            | Answer::PastCount(n) => n.into(),
             Answer::OutOfForm(n) => n,
-            Answer::PastCount(n) => n as u32,
+            Answer::SourceTooLong => 65535,
+            Answer::StepsSpent | Answer::GoalsFull | Answer::StoreFull => 0,
         }
     }
 

@@ -1,7 +1,9 @@
 // One line of a listing: a code and seven columns.
 // Lines are numbered from 1; a column that names a line holds its number, and 0 where there is none.
+ghost use Rattle.std.specs.Prelude.{◌≡◌};
+
 #[repr(C)]
-#[derive(Clone, Copy, PartialEq, Eq, Debug, Default)]
+#[derive(Clone, Copy, PartialEq, Eq, Hash, Debug, Default)]
 pub struct Line {
     pub code: u8,
     pub c1: u16,
@@ -11,4 +13,17 @@ pub struct Line {
     pub c5: u16,
     pub c6: u16,
     pub c7: u16,
+}
+
+impl Line {
+    ghost use Rattle.lines.specs.Lines.{numbers};
+
+    // c1 to c7 in order.
+    pub fn columns(self) -> [u16; 7]
+        ensures { result ≡ numbers self }
+    {
+        [
+            self.c1, self.c2, self.c3, self.c4, self.c5, self.c6, self.c7,
+        ]
+    }
 }

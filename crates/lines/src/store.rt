@@ -4,6 +4,7 @@ ghost use Rattle.std.specs.Prelude.{◌≡◌, ℕ, ◌≤◌, List, length, tak
 ghost use Rattle.lines.specs.Stores.{numbered, Put};
 ghost use Rattle.lines.specs.declared.line.Line.{Line};
 
+use crate::iter::Lines;
 use crate::line::Line;
 
 // No store has more room than this.
@@ -51,4 +52,11 @@ pub trait LineStore {
         ensures room { most self.new ≡ most self.old }
         ensures lines { lines self.new ≡ take n (lines self.old) }
         ensures kept { keeps self.old → keeps self.new };
+
+    // The lines from the first to the last.
+    final fn iter(&self) -> Lines<'_, Self>
+        ensures { result ≡ lines self.now }
+    {
+        Lines::new(self)
+    }
 }

@@ -1,131 +1,79 @@
--- The lines that places are read as: fewer of them, one of them, and after one place is written.
-use Rattle.std.proofs.Common.{◌≡◌, ℕ, zero, suc, ◌+◌, ◌-◌, ◌*◌, ◌/◌, ◌<◌, ◌≤◌, min, List, [], ◌∷◌, ◌++◌, length, take, drop, Some, sym, refl, ap, ◌∙◌, subst, inl, inr, add-one, arith, length-append, length-drop}
-use Rattle.std.proofs.lemmas.List.{take_all, take_at, drop_at, take-take, take-append-le, drop-take, append_assoc, get_or_push, length_push, length-take-le}
-use Rattle.std.proofs.lemmas.Option.{slice_get-get_or}
-use Rattle.std.proofs.lemmas.Bool.{cases_lt}
-use Rattle.std.specs.List.{slice_get}
-use Rattle.page.specs.Form.{pasted, encoded, decoded, InForm}
-use Rattle.page.specs.Pages.{place, rows, rows_length}
+-- The places of some bytes and the lines that they are read as: fewer of them, one of them, and after one is written.
+use Rattle.std.proofs.Common.{◌≡◌, ℕ, zero, suc, ◌+◌, ◌-◌, ◌*◌, ◌<◌, ◌≤◌, min, List, [], ◌∷◌, ◌++◌, length, get_or, take, drop, map, Some, refl, sym, ap, ap₂, ◌∙◌, subst, add-one, below_more, arith}
+use Rattle.std.proofs.lemmas.List.{drop-drop, take-map, take_at, take-append-le, drop-append-le, take-take, append_assoc, map-append, length-drop, length-take, length-take-le, get_or-take, get_or_append_left, get_or_push, drop-take}
+use Rattle.std.proofs.lemmas.Option.{slice_get-map, slice_get-get_or}
+use Rattle.std.specs.Option.{option_map}
+use Rattle.std.specs.Simd.{first_chunks}
+use Rattle.lines.proofs.Numbered.{numbered_is}
 use Rattle.lines.specs.Stores.{numbered}
-use Rattle.lines.specs.declared.line.Line.{Line}
-use Rattle.lines.proofs.Numbered.{numbered_is, nth_take}
-use Rattle.page.proofs.Written.{length-encoded}
+use Rattle.page.specs.Form.{pasted, decoded, InForm}
+use Rattle.page.specs.Pages.{place, rows}
 
-rows_front : (k n : ℕ) (s : List ℕ) → n ≤ k → take n (rows k s) ≡ rows n s
-unfolding rows
-rows_front zero n s h = let e : n ≡ 0 = omega arith in ap (λ m. take m (rows zero s)) e ∙ ap (λ m. rows m s) (sym e)
-rows_front (suc k) n s h =
-    elim (cases_lt k n) [
-      | inl l ↦
-          let e : suc k ≡ n = omega arith in
-          take_all n (rows (suc k) s) (omega (arith, rows_length (suc k) s)) ∙ ap (λ m. rows m s) e
-      | inr l ↦ take-append-le n (rows k s) (decoded (place k s) ∷ []) (omega (arith, rows_length k s)) ∙ rows_front k n s l
-    ]
+pub length-first_chunks : {X : Type 0} (n k : ℕ) (xs : List X) → length (first_chunks n k xs) ≡ k
+length-first_chunks n zero xs = refl
+length-first_chunks n (suc k) xs = ap suc (length-first_chunks n k (drop n xs))
+
+pub take-first_chunks : {X : Type 0} (n k m : ℕ) (xs : List X) → take k (first_chunks n m xs) ≡ first_chunks n (min m k) xs
+take-first_chunks n zero m xs = let e : min m 0 ≡ 0 = omega arith in ap (λ j. first_chunks n j xs) (sym e)
+take-first_chunks n (suc k) zero xs = let e : min 0 (suc k) ≡ 0 = omega arith in ap (λ j. first_chunks n j xs) (sym e)
+take-first_chunks n (suc k) (suc m) xs =
+    let e : suc (min m k) ≡ min (suc m) (suc k) = omega arith in
+    ap (λ ys. take n xs ∷ ys) (take-first_chunks n k m (drop n xs)) ∙ ap (λ j. first_chunks n j xs) e
+
+pub get_or-first_chunks : (m k : ℕ) (s d : List ℕ) → k < m → get_or (first_chunks 46 m s) k d ≡ place k s
+get_or-first_chunks zero k s d h = absurd (omega arith)
+get_or-first_chunks (suc m) zero s d h = refl
+get_or-first_chunks (suc m) (suc k) s d h =
+    let e : 46 + 46 * k ≡ 46 * suc k = omega arith in
+    get_or-first_chunks m k (drop 46 s) d (omega arith) ∙ ap (take 46) (drop-drop (46 * k) 46 s ∙ ap (λ j. drop j s) e)
+
+-- place k, from what is read of the first c of m places
+pub place_read : (m c k : ℕ) (s u : List ℕ) → c ≤ m → k < length (take c (first_chunks 46 m s)) → u ≡ get_or (take c (first_chunks 46 m s)) k u → u ≡ place k s
+place_read m c k s u h l e =
+    let lt : k < c = omega (arith, length-take c (first_chunks 46 m s)) in
+    e ∙ get_or-take c (first_chunks 46 m s) k u lt ∙ get_or-first_chunks m k s u (omega arith)
 
 pub rows_take : (k n : ℕ) (s : List ℕ) → take n (rows k s) ≡ rows (min k n) s
-rows_take k n s =
-    elim (cases_lt k n) [
-      | inl l ↦ let e : k ≡ min k n = omega arith in take_all n (rows k s) (omega (arith, rows_length k s)) ∙ ap (λ m. rows m s) e
-      | inr l ↦ let e : n ≡ min k n = omega arith in rows_front k n s l ∙ ap (λ m. rows m s) e
-    ]
-
-nth_push : {X : Type 0} (xs : List X) (x : X) (i : ℕ) → length xs ≡ i → slice_get (xs ++ x ∷ []) i ≡ Some x
-nth_push xs x i e = slice_get-get_or (xs ++ x ∷ []) i x (omega (arith, length_push xs x)) ∙ ap Some (get_or_push xs x x i e)
-
-nth_rows : (k i : ℕ) (s : List ℕ) → i < k → slice_get (rows k s) i ≡ Some (decoded (place i s))
-unfolding rows
-nth_rows k i s h =
-    sym (nth_take (suc i) i (rows k s) (omega arith))
-    ∙ ap (λ xs. slice_get xs i) (rows_front k (suc i) s h)
-    ∙ nth_push (rows i s) (decoded (place i s)) i (rows_length i s)
+rows_take k n s = take-map decoded n (first_chunks 46 k s) ∙ ap (map decoded) (take-first_chunks 46 n k s)
 
 pub rows_numbered : (k n : ℕ) (s : List ℕ) → 0 < n → n ≤ k → numbered (rows k s) n ≡ Some (decoded (place (n - 1) s))
-rows_numbered k n s z h = numbered_is (rows k s) n z ∙ nth_rows k (n - 1) s (omega arith)
+rows_numbered k n s z h =
+    let lt : n - 1 < length (first_chunks 46 k s) = omega (arith, length-first_chunks 46 k s) in
+    numbered_is (rows k s) n z
+    ∙ slice_get-map decoded (first_chunks 46 k s) (n - 1)
+    ∙ ap (option_map decoded) (slice_get-get_or (first_chunks 46 k s) (n - 1) [] lt ∙ ap Some (get_or-first_chunks k (n - 1) s [] (omega arith)))
 
--- a place lies in the bytes up to its end
-place_front : (i : ℕ) (s t : List ℕ) → take (46 * i + 46) s ≡ take (46 * i + 46) t → place i s ≡ place i t
-place_front i s t e = sym (drop-take (46 * i) 46 s) ∙ ap (drop (46 * i)) e ∙ drop-take (46 * i) 46 t
+-- place n is written: of n + 1 places, it alone is another
+chunks_pasted : (n : ℕ) (e s : List ℕ) → 46 * n + 46 ≤ length s → length e ≡ 46 → first_chunks 46 (suc n) (pasted (46 * n) e s) ≡ first_chunks 46 n s ++ e ∷ []
+chunks_pasted zero e s h l = ap (λ u. u ∷ []) (take_at e (drop (0 + length e) s) 46 l)
+chunks_pasted (suc n) e s h l =
+    let p = 46 * suc n in
+    let m : p ≡ 46 + 46 * n = omega arith in
+    let behind : p + length e ≡ 46 + (46 * n + length e) = omega arith in
+    let rest : List ℕ = e ++ drop (p + length e) s in
+    let long : 46 ≤ length (take p s) = omega (arith, length-take-le p s (omega arith)) in
+    let split : pasted p e s ≡ take p s ++ rest = append_assoc (take p s) e (drop (p + length e) s) in
+    let front : take 46 (pasted p e s) ≡ take 46 s = ap (take 46) split ∙ take-append-le 46 (take p s) rest long ∙ take-take 46 p s (omega arith) in
+    let back : drop 46 (pasted p e s) ≡ pasted (46 * n) e (drop 46 s) =
+    ap (drop 46) split
+    ∙ drop-append-le 46 (take p s) rest long
+    ∙ ap₂ ◌++◌ (ap (λ k. drop 46 (take k s)) m ∙ drop-take 46 (46 * n) s) (ap (λ k. e ++ drop k s) behind ∙ ap (λ u. e ++ u) (sym (drop-drop (46 * n + length e) 46 s)))
+    ∙ sym (append_assoc (take (46 * n) (drop 46 s)) e (drop (46 * n + length e) (drop 46 s))) in
+    ap₂ ◌∷◌ front (ap (first_chunks 46 (suc n)) back ∙ chunks_pasted n e (drop 46 s) (omega (arith, length-drop 46 s)) l)
 
-rows_same : (k : ℕ) (s t : List ℕ) → ((i : ℕ) → i < k → place i s ≡ place i t) → rows k s ≡ rows k t
-unfolding rows
-rows_same zero s t h = refl
-rows_same (suc k) s t h =
-    ap (λ xs. xs ++ decoded (place k s) ∷ []) (rows_same k s t (λ i l. h i (omega arith)))
-    ∙ ap (λ (u : List ℕ). rows k t ++ decoded u ∷ []) (h k (omega arith))
-
--- e is written at place n of s
-module _ (s e : List ℕ) (n : ℕ) (fits : 46 * n + 46 ≤ length s) (long : length e ≡ 46) where
-  head_length : length (take (46 * n) s) ≡ 46 * n
-  head_length = length-take-le (46 * n) s (omega arith)
-
-  pub length-pasted : length (pasted (46 * n) e s) ≡ length s
-  length-pasted =
-      simp length-append (omega (arith, head_length, length-drop (46 * n + length e) s))
-
-  place_below : (i : ℕ) → i < n → place i (pasted (46 * n) e s) ≡ place i s
-  place_below i h =
-      place_front i (pasted (46 * n) e s) s
-      (ap (take (46 * i + 46)) (append_assoc (take (46 * n) s) e (drop (46 * n + length e) s))
-      ∙ take-append-le (46 * i + 46) (take (46 * n) s) _ (omega (arith, head_length))
-      ∙ take-take (46 * i + 46) (46 * n) s (omega arith))
-
-  place_at : place n (pasted (46 * n) e s) ≡ e
-  place_at =
-      ap (λ u. take 46 (drop (46 * n) u)) (append_assoc (take (46 * n) s) e (drop (46 * n + length e) s))
-      ∙ ap (take 46) (drop_at (take (46 * n) s) (e ++ drop (46 * n + length e) s) (46 * n) head_length)
-      ∙ take_at e (drop (46 * n + length e) s) 46 long
-
+-- the bytes e are written at place n of s, as long as a place
+module _ (n : ℕ) (e s : List ℕ) (fits : 46 * n + 46 ≤ length s) (long : length e ≡ 46) where
   pub rows-pasted : rows (n + 1) (pasted (46 * n) e s) ≡ rows n s ++ decoded e ∷ []
-  unfolding rows
   rows-pasted =
       ap (λ k. rows k (pasted (46 * n) e s)) (add-one n)
-      ∙ ap (λ xs. xs ++ decoded (place n (pasted (46 * n) e s)) ∷ []) (rows_same n (pasted (46 * n) e s) s place_below)
-      ∙ ap (λ (u : List ℕ). rows n s ++ decoded u ∷ []) place_at
+      ∙ ap (map decoded) (chunks_pasted n e s fits long)
+      ∙ map-append decoded (first_chunks 46 n s) (e ∷ [])
 
-  pub formed_pasted : InForm e → ((k : ℕ) → k < n → InForm (place k s)) → (k : ℕ) → k < n + 1 → InForm (place k (pasted (46 * n) e s))
-  formed_pasted here below k h =
-      elim (cases_lt k n) [
-        | inl l ↦ subst InForm (sym (place_below k l)) (below k l)
-        | inr l ↦ let i : k ≡ n = omega arith in subst InForm (sym (ap (λ j. place j (pasted (46 * n) e s)) i ∙ place_at)) here
-      ]
+  placed : (k : ℕ) → k < n + 1 → place k (pasted (46 * n) e s) ≡ get_or (first_chunks 46 n s ++ e ∷ []) k []
+  placed k h = sym (get_or-first_chunks (suc n) k (pasted (46 * n) e s) [] (omega arith)) ∙ ap (λ xs. get_or xs k []) (chunks_pasted n e s fits long)
 
-abbrev room : List ℕ → ℕ
-room s = min (length s / 46) 65535
-
--- a put of the line l on the bytes s, of which `count` places are counted: the bytes t
-module _ (s t : List ℕ) (count n : ℕ) (l : Line)
-    (counted : n ≡ length (rows (min count (room s)) s))
-    (free : n ≡ room s → ⊥)
-    (wrote : t ≡ pasted (46 * n) (encoded l) s) where
-  number : n ≡ min count (room s)
-  number = counted ∙ rows_length (min count (room s)) s
-
-  fits : 46 * n + 46 ≤ length s
-  fits = omega (arith, number)
-
-  long : length (encoded l) ≡ 46
-  long = length-encoded l
-
-  pub put_room : room t ≡ room s
-  put_room = ap room wrote ∙ ap (λ k. min (k / 46) 65535) (length-pasted s (encoded l) n fits long)
-
-  pub put_less : length (rows (min count (room s)) s) < room s
-  put_less = omega (arith, number)
-
-  pub put_rows : decoded (encoded l) ≡ l → rows (min (n + 1) (room t)) t ≡ rows (min count (room s)) s ++ l ∷ []
-  put_rows back =
-      let e : min (n + 1) (room t) ≡ n + 1 = omega (arith, number, put_room) in
-      ap (λ k. rows k t) e
-      ∙ ap (rows (n + 1)) wrote
-      ∙ rows-pasted s (encoded l) n fits long
-      ∙ ap (λ k. rows k s ++ decoded (encoded l) ∷ []) number
-      ∙ ap (λ x. rows (min count (room s)) s ++ x ∷ []) back
-
-  pub put_formed : InForm (encoded l) → (count ≤ room s) × ((k : ℕ) → k < count → InForm (place k s)) → (n + 1 ≤ room t) × ((k : ℕ) → k < n + 1 → InForm (place k t))
-  put_formed here f = (
-    omega (arith, number, put_room),
-    λ k h. subst (λ u. InForm (place k u)) (sym wrote) (formed_pasted s (encoded l) n fits long here (λ i j. f.1 i (omega (arith, number))) k h),
-  )
-
-  pub put_wrote : t ≡ pasted (46 * length (rows (min count (room s)) s)) (encoded l) s
-  put_wrote = wrote ∙ ap (λ k. pasted (46 * k) (encoded l) s) counted
+  pub formed-pasted : InForm e → ((k : ℕ) → k < n → InForm (place k s)) → (k : ℕ) → k < n + 1 → InForm (place k (pasted (46 * n) e s))
+  formed-pasted here below =
+      below_more (λ k. InForm (place k (pasted (46 * n) e s))) n
+      (λ k h. subst InForm (sym (placed k (omega arith) ∙ get_or_append_left (first_chunks 46 n s) (e ∷ []) [] k (omega (arith, length-first_chunks 46 n s)) ∙ get_or-first_chunks n k s [] h)) (below k h))
+      (subst InForm (sym (placed n (omega arith) ∙ get_or_push (first_chunks 46 n s) e [] n (length-first_chunks 46 n s))) here)

@@ -1,29 +1,32 @@
 -- A line as text: the code in 3 columns, the seven numbers in 6 each, and byte 10.
-use Rattle.std.specs.Prelude.{◌≡◌, ℕ, ◌+◌, ◌-◌, ◌*◌, ◌/◌, ◌%◌, ◌≤◌, min, cond, List, [], ◌∷◌, ◌++◌, length, take, drop, nat_lt, slice_index}
+use Rattle.std.specs.Prelude.{◌≡◌, ℕ, zero, suc, ◌+◌, ◌-◌, ◌*◌, ◌/◌, ◌%◌, ◌≤◌, min, if◌then◌else◌, ◌==◌, List, [], ◌∷◌, ◌++◌, length, take, drop, slice_index}
+use Rattle.std.specs.List.{flat_map}
+use Rattle.lines.specs.Lines.{numbers}
 use Rattle.lines.specs.declared.line.Line.{Line}
 
--- the byte in the column of the power p of ten: the digit of n, or a space in front of its first one
-abbrev pub digit : ℕ → ℕ → ℕ
-digit n p = cond (nat_lt n p) 32 (48 + n / p % 10)
+-- the last digit of n, or a space if n is 0
+abbrev pub digit_or_space : ℕ → ℕ
+digit_or_space n = (if n == 0 then 32 else 48 + n % 10)
 
--- n in 3 columns, and in 6; the last one has a digit always
-unfoldable pub in_three : ℕ → List ℕ
-in_three n = digit n 100 ∷ digit n 10 ∷ (48 + n % 10) ∷ []
+-- n at the end of k columns, with spaces in front; 0 is spaces only
+abbrev pub spaced : ℕ → ℕ → List ℕ
+spaced zero n = []
+spaced (suc k) n = spaced k (n / 10) ++ digit_or_space n ∷ []
 
-unfoldable pub in_six : ℕ → List ℕ
-in_six n = digit n 100000 ∷ digit n 10000 ∷ digit n 1000 ∷ digit n 100 ∷ digit n 10 ∷ (48 + n % 10) ∷ []
+-- n in k columns; the last one has a digit always
+unfoldable pub in_columns : ℕ → ℕ → List ℕ
+in_columns zero n = []
+in_columns (suc k) n = spaced k (n / 10) ++ (48 + n % 10) ∷ []
+
+-- the columns of a code, and of a number
+abbrev pub in_three : ℕ → List ℕ
+in_three = in_columns 3
+
+abbrev pub in_six : ℕ → List ℕ
+in_six = in_columns 6
 
 unfoldable pub encoded : Line → List ℕ
-encoded l =
-    in_three l.code
-    ++ in_six l.c1
-    ++ in_six l.c2
-    ++ in_six l.c3
-    ++ in_six l.c4
-    ++ in_six l.c5
-    ++ in_six l.c6
-    ++ in_six l.c7
-    ++ 10 ∷ []
+encoded l = in_three l.code ++ flat_map in_six (numbers l) ++ 10 ∷ []
 
 -- the bytes with others written over them from i on
 abbrev pub pasted : ℕ → List ℕ → List ℕ → List ℕ
@@ -33,20 +36,17 @@ pasted i t s = take i s ++ t ++ drop (i + length t) s
 abbrev pub value : List ℕ → ℕ → ℕ
 value s i = slice_index s i - 48
 
--- what 3 columns, and 6, are read as, whatever bytes stand there
-unfoldable pub of_three : List ℕ → ℕ → ℕ
-of_three s i = min (value s i * 100 + value s (i + 1) * 10 + value s (i + 2)) 255
+-- what k columns from i on are read as, whatever bytes stand there
+abbrev pub of_columns : ℕ → List ℕ → ℕ → ℕ
+of_columns zero s i = 0
+of_columns (suc k) s i = of_columns k s i * 10 + value s (i + k)
 
-unfoldable pub of_six : List ℕ → ℕ → ℕ
-of_six s i =
-    min
-    (value s i * 100000
-    + value s (i + 1) * 10000
-    + value s (i + 2) * 1000
-    + value s (i + 3) * 100
-    + value s (i + 4) * 10
-    + value s (i + 5))
-    65535
+-- a code and a number that are read, at most what their types hold
+abbrev pub of_three : List ℕ → ℕ → ℕ
+of_three s i = min (of_columns 3 s i) 255
+
+abbrev pub of_six : List ℕ → ℕ → ℕ
+of_six s i = min (of_columns 6 s i) 65535
 
 unfoldable pub decoded : List ℕ → Line
 decoded s =

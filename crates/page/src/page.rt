@@ -1,24 +1,27 @@
 // The lines of a listing as text in lent bytes.
 
-ghost use Rattle.std.specs.Prelude.{◌≡◌, ◌-◌, [], length, take};
 ghost use Rattle.lines.specs.Adopts.{Adopted};
-ghost use Rattle.lines.specs.Answers.{number};
-ghost use Rattle.page.specs.Form.{InForm};
-ghost use Rattle.page.specs.Pages.{place, text, standing, spaces, every, Formed, FirstOut, Wrote, within_room, within_cap};
 ghost use Rattle.lines.specs.Stores.{Put};
+ghost use Rattle.page.specs.Form.{InForm};
+ghost use Rattle.std.specs.Prelude.{◌≡◌, ◌-◌, ◌/◌, ◌≤◌, [], length, min, take, OnOk};
+ghost use Rattle.std.specs.Simd.{first_chunks};
 
 use crate::form::{LINE_BYTES, decode, encode, in_form};
-use lines::{Answer, Line, LineStore, MAX_ROOM, StoreFault};
+use lines::{Line, LineStore, MAX_ROOM, OutOfForm, StoreFault};
 
 // Room for as many lines as there are whole places of 46 bytes, at most 65,535.
+// Kept as clauses: that the counted places are in form, Formed. A store's clauses `kept` say it in any case, so a field would only say it twice.
 // A clause `lender` says that the page still stands in the bytes that were lent to it: so the lender knows what they hold at last.
 #[derive(Drop)]
 pub struct Page<'a> {
     bytes: &'a mut [u8],
     count: u16,
+    ghost within: { count ≤ min (length bytes.now / 46) 65535 },
 }
 
 impl<'a> Page<'a> {
+    ghost use Rattle.page.specs.Pages.{place, text, standing, spaces, every, Formed, FirstOut};
+
     // A page without lines; no byte is changed.
     pub fn new(bytes: &'a mut [u8]) -> Page<'a>
         ensures lines { standing result ≡ [] }
@@ -30,43 +33,47 @@ impl<'a> Page<'a> {
     }
 
     // Takes the first n places for the lines, if they are within the room and in form.
-    pub fn adopt(&mut self, n: usize) -> Answer
+    pub fn adopt(&mut self, n: usize) -> Result<u16, OutOfForm>
         ensures bytes { text self.new ≡ text self.old }
         ensures cases { Adopted (λ p. InForm (place (p - 1) (text self.old))) (every self.old) n (standing self.old) (standing self.new) result }
-        ensures granted { number result ≡ 0 → Formed self.new }
+        ensures ok { OnOk result (Formed self.new) }
         ensures kept { Formed self.old → Formed self.new }
         ensures lender { self.new.bytes.ghost_name ≡ self.old.bytes.ghost_name }
     {
-        match self.first_out(n) {
-            Some(p) => Answer::OutOfForm(p),
-            None => {
-                self.count = n as u16;
-                Answer::Granted(n as u16)
-            }
-        }
+        self.count = self.first_out(n)?;
+        Ok(self.count)
     }
 
-    // The lowest of the places 1 to n that is out of form or beyond the room.
-    fn first_out(&self, n: usize) -> Option<u32>
+    // n, or the lowest of the places 1 to n that is out of form or beyond the room.
+    fn first_out(&self, n: usize) -> Result<u16, OutOfForm>
         ensures { FirstOut self.now n result }
     {
         let room = self.room() as usize;
-        let bytes: &[u8] = &*self.bytes;
-        for k in 0..n.min(room) {
-            let at = LINE_BYTES * k;
-            if !in_form(&bytes[at..at + LINE_BYTES]) {
-                return Some(k as u32 + 1);
-            }
+        let within = &self.places()[..n.min(room)];
+        match within.iter().position(|place| !in_form(place)) {
+            Some(k) => Err(OutOfForm {
+                place: k as u32 + 1,
+            }),
+            None if n > room => Err(OutOfForm {
+                place: room as u32 + 1,
+            }),
+            None => Ok(n as u16),
         }
-        if n > room {
-            Some(room as u32 + 1)
-        } else {
-            None
-        }
+    }
+
+    // The whole places of the bytes.
+    fn places(&self) -> &[[u8; LINE_BYTES]]
+        ensures places { result.now ≡ first_chunks 46 (length (text self.now) / 46) (text self.now) }
+        ensures count { length result.now ≡ length (text self.now) / 46 }
+    {
+        self.bytes.as_chunks().0
     }
 }
 
+#[tactic(auto, using(crate::specs::Pages::rows_length))]
 impl<'a> LineStore for Page<'a> {
+    ghost use Rattle.page.specs.Pages.{text, standing, spaces, Formed, Wrote, within_room, within_cap};
+
     ghost lines = { λ p. standing p };
 
     ghost most = { λ p. spaces p };
@@ -78,7 +85,7 @@ impl<'a> LineStore for Page<'a> {
     ghost capped = { λ p. within_cap p };
 
     fn count(&self) -> u16 {
-        self.count.min(self.room())
+        self.count
     }
 
     fn room(&self) -> u16 {
@@ -86,15 +93,9 @@ impl<'a> LineStore for Page<'a> {
     }
 
     fn get(&self, n: u16) -> Option<Line> {
-        if n == 0 {
-            return None;
-        }
-        if n > self.count() {
-            return None;
-        }
-        let at = LINE_BYTES * (n as usize - 1);
-        let bytes: &[u8] = &*self.bytes;
-        Some(decode(&bytes[at..at + LINE_BYTES]))
+        let k = n.checked_sub(1)?;
+        let place = self.places()[..self.count as usize].get(k as usize)?;
+        Some(decode(place))
     }
 
     // It writes its own 46 bytes and no other.
@@ -104,7 +105,7 @@ impl<'a> LineStore for Page<'a> {
         ensures kept { Formed self.old → Formed self.new }
         ensures bytes { Wrote (text self.old) (text self.new) (length (standing self.old)) line result }
     {
-        let n = self.count();
+        let n = self.count;
         if n == self.room() {
             return Err(StoreFault { count: n });
         }

@@ -1,4 +1,2 @@
 mod Adopting
 mod Columns
-mod Counts
-mod Texts

@@ -1,51 +1,30 @@
 -- The text of a verdict: a sentence for people, and as the last line the answer's number, place and cause in 8 columns each.
-use Rattle.std.specs.Prelude.{ℕ, ◌-◌, cond, List, [], ◌∷◌, ◌++◌, length, replicate, codes, decimal, nat_lt}
-use Rattle.lines.specs.Answers.{number, place, cause_of}
+use Rattle.std.specs.Prelude.{ℕ, ◌-◌, if◌then◌else◌, List, [], ◌∷◌, ◌++◌, length, replicate, codes, decimal, nat_lt}
+use Rattle.lines.specs.Answers.{number, place, cause_of, cause_text}
 use Rattle.lines.specs.declared.answer.Answer.{Answer}
-use Rattle.lines.specs.declared.answer.Answer.TheVariants.{Granted, Fails, SourceTooLong, NoToken, OpenComment, LongName, Unexpected, TooDeep, TreeFull, Unbound, StepsSpent, GoalsFull, StoreFull, Unsound, OutOfForm, PastCount}
-use Rattle.lines.specs.declared.answer.Cause.{Cause}
-use Rattle.lines.specs.declared.answer.Cause.TheVariants.{Code, Column, Reference, Repeated, Unfounded}
+use Rattle.lines.specs.declared.answer.Answer.TheVariants.{Granted, Unsound, OutOfForm}
 use Rattle.report.specs.RuleNames.{rule_text}
 use Rattle.report.specs.declared.verdict.Verdict.{Verdict}
-
-abbrev pub cause_text : Cause → List ℕ
-cause_text Code = codes "its code is unknown or not admitted"
-cause_text Column = codes "a column past those of its code is not 0"
-cause_text Reference = codes "a line that it names is not earlier or not of that kind"
-cause_text Repeated = codes "an equal line stands earlier"
-cause_text Unfounded = codes "it does not follow"
 
 -- a sound listing, by its number of lines
 abbrev pub sound_text : (lines judgments definitions : ℕ) → List ℕ
 sound_text lines judgments definitions =
-    cond (nat_lt 0 lines)
-    (codes "sound. Lines: " ++ (decimal lines ++ (codes ", judgments: " ++ (decimal judgments ++ (codes ", definitions: " ++ decimal definitions)))))
-    (codes "0 lines, nothing is concluded")
+    if nat_lt 0 lines
+    then codes "sound. Lines: " ++ (decimal lines ++ (codes ", judgments: " ++ (decimal judgments ++ (codes ", definitions: " ++ decimal definitions))))
+    else codes "0 lines, nothing is concluded"
 
 -- the first place that is no line; a later one than 65535 has that many lines before it
 abbrev pub out_text : (place : ℕ) → List ℕ
 out_text p =
-    cond (nat_lt 65535 p)
-    (codes "no listing. More than 65535 lines")
-    (codes "no listing. Place " ++ (decimal p ++ codes " is out of form"))
+    if nat_lt 65535 p
+    then codes "no listing. More than 65535 lines"
+    else codes "no listing. Place " ++ (decimal p ++ codes " is out of form")
 
 abbrev pub finding_text : Answer → (judgments definitions : ℕ) → List ℕ
 finding_text (Granted n) judgments definitions = sound_text n judgments definitions
 finding_text (Unsound n c) judgments definitions = codes "unsound. Line " ++ (decimal n ++ (codes ": " ++ cause_text c))
 finding_text (OutOfForm p) judgments definitions = out_text p
-finding_text (Fails n) judgments definitions = codes "no verdict"
-finding_text SourceTooLong judgments definitions = codes "no verdict"
-finding_text (NoToken n) judgments definitions = codes "no verdict"
-finding_text (OpenComment n) judgments definitions = codes "no verdict"
-finding_text (LongName n) judgments definitions = codes "no verdict"
-finding_text (Unexpected n) judgments definitions = codes "no verdict"
-finding_text (TooDeep n) judgments definitions = codes "no verdict"
-finding_text (TreeFull n) judgments definitions = codes "no verdict"
-finding_text (Unbound n) judgments definitions = codes "no verdict"
-finding_text StepsSpent judgments definitions = codes "no verdict"
-finding_text GoalsFull judgments definitions = codes "no verdict"
-finding_text StoreFull judgments definitions = codes "no verdict"
-finding_text (PastCount n) judgments definitions = codes "no verdict"
+finding_text other judgments definitions = codes "no verdict"
 
 -- right-justified in 8 columns
 abbrev pub in_eight : ℕ → List ℕ

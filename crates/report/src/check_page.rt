@@ -1,17 +1,15 @@
 // The verdict on a page.
 
-ghost use Rattle.std.specs.Prelude.{◌≡◌, ℕ};
-ghost use Rattle.checker.specs.Checked.{Checked};
+ghost use Rattle.lines.specs.Answers.{number};
+ghost use Rattle.std.specs.Prelude.{◌≡◌, ◌≢◌, IfOk, IfErr};
 ghost use Rattle.report.specs.RuleNames.{rule_of};
 ghost use Rattle.report.specs.Verdicts.{Answered, concluded, listing};
 
 use crate::rule_name::RuleName;
 use crate::tally::tally;
 use crate::verdict::Verdict;
-use checker::check;
-use lines::{Answer, LineStore, code};
+use lines::{Answer, code};
 use page::{LINE_BYTES, Page};
-use rules::{EqualBounds, LeastBound};
 use std::alloc::Global;
 
 // Takes every place of 46 bytes for a line, an incomplete last one too, and checks the listing under the rule.
@@ -22,14 +20,9 @@ pub fn verify(rule: RuleName, bytes: &mut [u8], heap: Global) -> Verdict
     ensures definitions { result.definitions ≡ concluded 91 92 result.answer (listing bytes.old) }
     ensures bytes { bytes.new ≡ bytes.old }
 {
-    let places = bytes.len().div_ceil(LINE_BYTES);
-    let mut page = Page::new(bytes);
-    match page.adopt(places) {
-        Answer::Granted(_) => {
-            let answer = answer_under(rule, &page, heap);
-            conclusion(rule, &page, answer)
-        }
-        answer => Verdict {
+    match sound(rule, bytes, heap) {
+        Ok(verdict) => verdict,
+        Err(answer) => Verdict {
             rule,
             answer,
             judgments: 0,
@@ -38,36 +31,23 @@ pub fn verify(rule: RuleName, bytes: &mut [u8], heap: Global) -> Verdict
     }
 }
 
-fn answer_under<S: LineStore>(rule: RuleName, store: &S, heap: Global) -> Answer
-    ensures { Checked (rule_of rule) (S.lines store.now) result }
+// The verdict on a sound listing, or what keeps the page from being one.
+fn sound(rule: RuleName, bytes: &mut [u8], heap: Global) -> Result<Verdict, Answer>
+    ensures rule { IfOk result (λ v. v.rule ≡ rule) }
+    ensures answer { IfOk result (λ v. Answered (rule_of rule) bytes.old v.answer) }
+    ensures judgments { IfOk result (λ v. v.judgments ≡ concluded 50 79 v.answer (listing bytes.old)) }
+    ensures definitions { IfOk result (λ v. v.definitions ≡ concluded 91 92 v.answer (listing bytes.old)) }
+    ensures refused { IfErr result (λ answer. Answered (rule_of rule) bytes.old answer × (number answer ≢ 0)) }
+    ensures bytes { bytes.new ≡ bytes.old }
 {
-    match rule {
-        RuleName::EqualBounds => check::<EqualBounds, S>(store, heap),
-        RuleName::LeastBound => check::<LeastBound, S>(store, heap),
-    }
-}
-
-// Only a sound listing concludes anything.
-fn conclusion<S: LineStore>(rule: RuleName, store: &S, answer: Answer) -> Verdict
-    ensures rule { result.rule ≡ rule }
-    ensures answer { result.answer ≡ answer }
-    ensures judgments { result.judgments ≡ concluded 50 79 answer (S.lines store.now) }
-    ensures definitions { result.definitions ≡ concluded 91 92 answer (S.lines store.now) }
-{
-    if answer.number() != 0 {
-        return Verdict {
-            rule,
-            answer,
-            judgments: 0,
-            definitions: 0,
-        };
-    }
-    let judgments = tally(store, code::IS_ENV, code::HAS_REC);
-    let definitions = tally(store, code::LET_TYPE, code::LET_TERM);
-    Verdict {
+    let places = bytes.len().div_ceil(LINE_BYTES);
+    let mut page = Page::new(bytes);
+    page.adopt(places)?;
+    let count = rule.check(&page, heap)?;
+    Ok(Verdict {
         rule,
-        answer,
-        judgments,
-        definitions,
-    }
+        answer: Answer::Granted(count),
+        judgments: tally(&page, code::IS_ENV..=code::HAS_REC),
+        definitions: tally(&page, code::LET_TYPE..=code::LET_TERM),
+    })
 }

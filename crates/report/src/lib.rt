@@ -1,7 +1,9 @@
 // The verdict on a page of lines, and its text.
 //
 // RuleName            EqualBounds or LeastBound
-// rule_named(word)    the rule of this name; none for any other word
+//   from_str(word)      the rule of this name; UnknownRule for any other word
+//   {}                  its name
+//   check(store, heap)  what check finds of the lines under the rule: Ok(their count), or the first fault
 //
 // Verdict             the rule, the answer, and how many judgments and definitions are concluded
 //   is_granted()      whether the answer is 0: the page is a sound listing
@@ -14,7 +16,7 @@
 //     Judgments (lines 50 to 79) and definitions (lines 91 and 92) are counted if it is granted, and else 0.
 //     It refuses no bytes and leaves them as they were. Want of memory changes no verdict.
 //
-// report(heap, verdict)
+// report(heap, verdict), and a Verdict by {}
 //     Ok(text)             a sentence for people, and as the last line the answer's number, place and cause in 8 columns each
 //     Err                  where memory is refused
 #![tactic(auto)]
@@ -26,6 +28,6 @@ mod text;
 mod verdict;
 
 pub use check_page::verify;
-pub use rule_name::{RuleName, rule_named};
+pub use rule_name::{RuleName, UnknownRule};
 pub use text::report;
 pub use verdict::Verdict;

@@ -1,7 +1,16 @@
 // The quantifier rules by name.
 
+ghost use Rattle.checker.specs.Checked.{Checked};
 ghost use Rattle.report.specs.RuleNames.{rule_text, Named};
-ghost use Rattle.std.specs.Prelude.{◌≡◌};
+ghost use Rattle.std.specs.Prelude.{Some, codes};
+
+use checker::check;
+use lines::{LineStore, Unsound};
+use rules::{EqualBounds, LeastBound};
+use std::alloc::Global;
+use std::error::Error;
+use std::fmt;
+use std::str::FromStr;
 
 #[derive(Clone, Copy, PartialEq, Eq, Debug)]
 pub enum RuleName {
@@ -9,22 +18,55 @@ pub enum RuleName {
     LeastBound,
 }
 
-pub(crate) fn rule_text(rule: RuleName) -> &'static str
-    ensures { result.now ≡ rule_text rule }
-{
-    match rule {
-        RuleName::EqualBounds => "EqualBounds",
-        RuleName::LeastBound => "LeastBound",
+impl RuleName {
+    ghost use Rattle.report.specs.RuleNames.{rule_of};
+
+    // What check finds of the lines under the rule.
+    pub fn check<S: LineStore>(self, store: &S, heap: Global) -> Result<u16, Unsound>
+        ensures { Checked (rule_of self) (S.lines store.now) result }
+    {
+        match self {
+            RuleName::EqualBounds => check::<EqualBounds, S>(store, heap),
+            RuleName::LeastBound => check::<LeastBound, S>(store, heap),
+        }
     }
 }
 
-// The rule of this name, if there is one.
-pub fn rule_named(word: &str) -> Option<RuleName>
-    ensures { Named word.now result }
-{
-    match word {
-        "EqualBounds" => Some(RuleName::EqualBounds),
-        "LeastBound" => Some(RuleName::LeastBound),
-        _ => None,
+// No rule has the name.
+#[derive(Clone, Copy, PartialEq, Eq, Debug)]
+pub struct UnknownRule;
+
+impl fmt::Display for RuleName {
+    ghost output = { λ rule. Some (rule_text rule) };
+
+    fn fmt<W: fmt::Write>(&self, f: &mut fmt::Formatter<W>) -> fmt::Result {
+        f.write_str(match self {
+            RuleName::EqualBounds => "EqualBounds",
+            RuleName::LeastBound => "LeastBound",
+        })
     }
 }
+
+impl FromStr for RuleName {
+    type Err = UnknownRule;
+
+    ghost from_str_gives = { Named };
+
+    fn from_str(word: &str) -> Result<RuleName, UnknownRule> {
+        match word {
+            "EqualBounds" => Ok(RuleName::EqualBounds),
+            "LeastBound" => Ok(RuleName::LeastBound),
+            _ => Err(UnknownRule),
+        }
+    }
+}
+
+impl fmt::Display for UnknownRule {
+    ghost output = { λ _. Some (codes "no rule has that name; the rules are EqualBounds and LeastBound") };
+
+    fn fmt<W: fmt::Write>(&self, f: &mut fmt::Formatter<W>) -> fmt::Result {
+        f.write_str("no rule has that name; the rules are EqualBounds and LeastBound")
+    }
+}
+
+impl Error for UnknownRule {}

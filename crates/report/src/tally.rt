@@ -1,26 +1,18 @@
 // How many lines have a code of some range.
 
-ghost use Rattle.report.specs.Verdicts.{between, coded_between};
-ghost use Rattle.std.specs.Prelude.{◌≡◌};
+ghost use Rattle.report.specs.Verdicts.{coded_between};
+ghost use Rattle.std.specs.Prelude.{◌≡◌, false};
+ghost use Rattle.std.specs.Range.{range_inclusive_start, range_inclusive_end, range_inclusive_exhausted};
 
 use lines::LineStore;
+use std::ops::RangeInclusive;
 
-pub(crate) fn tally<S: LineStore>(store: &S, low: u8, high: u8) -> u16
-    ensures { result ≡ coded_between low high (S.lines store.now) }
+pub(crate) fn tally<S: LineStore>(store: &S, codes: RangeInclusive<u8>) -> u16
+    requires { range_inclusive_exhausted codes ≡ false }
+    ensures { result ≡ coded_between (range_inclusive_start codes) (range_inclusive_end codes) (S.lines store.now) }
 {
-    let mut found = 0;
-    for n in 0..store.count() {
-        if let Some(line) = store.get(n + 1) {
-            if within(line.code, low, high) {
-                found += 1;
-            }
-        }
-    }
-    found
-}
-
-fn within(code: u8, low: u8, high: u8) -> bool
-    ensures { result ≡ between low high code }
-{
-    low <= code && code <= high
+    store
+        .iter()
+        .filter(|line| codes.contains(&line.code))
+        .count() as u16
 }

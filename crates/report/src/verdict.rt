@@ -7,7 +7,7 @@ use crate::rule_name::RuleName;
 use lines::Answer;
 
 // The answer under a rule; how many judgments and definitions a sound listing concludes.
-#[derive(Clone, Copy)]
+#[derive(Clone, Copy, PartialEq, Eq, Debug)]
 pub struct Verdict {
     pub rule: RuleName,
     pub answer: Answer,

@@ -1,5 +1,6 @@
 -- When a line is at fault, and when a listing is sound: at any length and numbers.
 use Rattle.std.specs.Prelude.{◌≡◌, ℕ, suc, ◌<◌, ◌≤◌, Bool, true, T, ◌⊎◌, List, [], ◌∷◌, length, take, drop, Some, None, Option, ◌≢◌}
+pub use Rattle.lines.specs.Lines.{numbers}
 use Rattle.lines.specs.Answers.{cause_number}
 use Rattle.lines.specs.Stores.{numbered}
 use Rattle.lines.specs.declared.answer.Cause.{Cause}
@@ -33,9 +34,6 @@ admitted R (has_judged h E a A p q r) = true
 admitted R (name_line n₁ n₂ n₃ n₄ n₅ n₆ n₇) = true
 admitted R (let_type name B A p E previous) = true
 admitted R (let_term name A b p E previous) = true
-
-abbrev pub numbers : Line → List ℕ
-numbers l = l.c1 ∷ l.c2 ∷ l.c3 ∷ l.c4 ∷ l.c5 ∷ l.c6 ∷ l.c7 ∷ []
 
 abbrev pub AllZero : List ℕ → Type 0
 AllZero [] = Unit {0}

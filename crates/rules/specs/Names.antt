@@ -1,30 +1,27 @@
 -- Names: 1 to 14 letters and digits, a letter first, and no keyword. A line spells one with two bytes a number, 0 after its end.
-use Rattle.std.specs.Prelude.{ℕ, ◌/◌, ◌%◌, Bool, true, false, cond, not, List, [], ◌∷◌, codes, ◌==◌, nat_le}
-
-abbrev pub both : Bool → Bool → Bool
-both a b = cond a b false
+use Rattle.std.specs.Prelude.{ℕ, ◌/◌, ◌%◌, Bool, true, false, if◌then◌else◌, ◌&&◌, ◌||◌, not, List, [], ◌∷◌, codes, ◌==◌, nat_le}
 
 abbrev pub between : ℕ → ℕ → ℕ → Bool
-between low high b = both (nat_le low b) (nat_le b high)
+between low high b = nat_le low b && nat_le b high
 
 -- A to Z; the backquote and a to z
 abbrev pub letter : ℕ → Bool
-letter b = cond (between 65 90 b) true (between 96 122 b)
+letter b = between 65 90 b || between 96 122 b
 
 abbrev pub letter_or_digit : ℕ → Bool
-letter_or_digit b = cond (letter b) true (between 48 57 b)
+letter_or_digit b = letter b || between 48 57 b
 
 -- letters and digits up to the first 0, and only 0 from there on
 abbrev pub padded : Bool → List ℕ → Bool
 padded ended [] = true
-padded false (b ∷ bs) = cond (b == 0) (padded true bs) (both (letter_or_digit b) (padded false bs))
-padded true (b ∷ bs) = both (b == 0) (padded true bs)
+padded false (b ∷ bs) = if b == 0 then padded true bs else letter_or_digit b && padded false bs
+padded true (b ∷ bs) = b == 0 && padded true bs
 
 -- the bytes are this word, and then a 0
 abbrev pub spells : List ℕ → List ℕ → Bool
 spells word [] = false
 spells [] (b ∷ bs) = b == 0
-spells (c ∷ word) (b ∷ bs) = both (b == c) (spells word bs)
+spells (c ∷ word) (b ∷ bs) = b == c && spells word bs
 
 abbrev pub keywords : List (List ℕ)
 keywords =
@@ -33,14 +30,14 @@ keywords =
 
 abbrev pub spells_one : List (List ℕ) → List ℕ → Bool
 spells_one [] bs = false
-spells_one (word ∷ words) bs = cond (spells word bs) true (spells_one words bs)
+spells_one (word ∷ words) bs = spells word bs || spells_one words bs
 
 abbrev pub starts_with_letter : List ℕ → Bool
 starts_with_letter [] = false
 starts_with_letter (b ∷ bs) = letter b
 
 abbrev pub is_name : List ℕ → Bool
-is_name bs = both (starts_with_letter bs) (both (padded false bs) (not (spells_one keywords bs)))
+is_name bs = starts_with_letter bs && padded false bs && not (spells_one keywords bs)
 
 abbrev pub two_bytes : List ℕ → List ℕ
 two_bytes [] = []

@@ -1,5 +1,5 @@
 -- What a line says, in line numbers: the table of codes. A prime marks a form that holds line numbers where types, terms and environments stand.
-use Rattle.std.specs.Prelude.{ℕ, cond, List, [], ◌∷◌, Some, None, Option, ◌==◌}
+use Rattle.std.specs.Prelude.{ℕ, if◌then◌else◌, List, [], ◌∷◌, Some, None, Option, ◌==◌}
 use Rattle.lines.specs.Stores.{numbered}
 use Rattle.lines.specs.declared.line.Line.{Line}
 use Rattle.rules.specs.declared.all_code.AllCode.{AllCode}
@@ -81,7 +81,7 @@ table l =
 
 abbrev pub coded : ℕ → List (ℕ × Statement) → Option Statement
 coded c [] = None
-coded c (row ∷ rows) = cond (c == row.0) (Some row.1) (coded c rows)
+coded c (row ∷ rows) = if c == row.0 then Some row.1 else coded c rows
 
 -- what a line says; none if its code is not in the table
 unfoldable pub statement : Line → Option Statement

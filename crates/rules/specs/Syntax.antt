@@ -1,6 +1,6 @@
 -- Types, terms and environments. Variables are numbered outward from 1, type and term binders apart:
 -- a term binder shifts no type variable, and an arrow binds nothing.
-use Rattle.std.specs.Prelude.{ℕ, zero, suc, pred, ◌≤◌, cond, ◌==◌, nat_lt}
+use Rattle.std.specs.Prelude.{ℕ, zero, suc, pred, ◌≤◌, if◌then◌else◌, ◌==◌, nat_lt}
 
 pub data Ty : Type 0 where
   top : Ty
@@ -35,7 +35,7 @@ pub data Env : Type 0 where
 -- A with every variable above j raised by 1
 abbrev pub lift : ℕ → Ty → Ty
 lift j top = top
-lift j (var k) = var (cond (nat_lt j k) (suc k) k)
+lift j (var k) = var (if nat_lt j k then suc k else k)
 lift j (arrow A B) = arrow (lift j A) (lift j B)
 lift j (all A B) = all (lift j A) (lift (suc j) B)
 lift j (rec B) = rec (lift (suc j) B)
@@ -43,7 +43,7 @@ lift j (rec B) = rec (lift (suc j) B)
 -- B with A put for variable j, and higher variables lowered by 1
 abbrev pub put : ℕ → Ty → Ty → Ty
 put j A top = top
-put j A (var k) = cond (k == j) A (var (cond (nat_lt j k) (pred k) k))
+put j A (var k) = if k == j then A else var (if nat_lt j k then pred k else k)
 put j A (arrow B C) = arrow (put j A B) (put j A C)
 put j A (all B C) = all (put j A B) (put (suc j) (lift 0 A) C)
 put j A (rec B) = rec (put (suc j) (lift 0 A) B)

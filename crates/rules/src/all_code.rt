@@ -1,16 +1,14 @@
 // The codes that put one All type below another, and what a line of each wants of All(X<:A)B <: All(X<:C)D.
 
 ghost use Rattle.std.specs.Prelude.{◌≡◌};
-ghost use Rattle.rules.specs.Quantifiers.{all_number};
+ghost use Rattle.rules.specs.Quantifiers.{all_number, bounds, bodies_under};
 
 use lines::code;
 
 #[derive(Clone, Copy, PartialEq, Eq, Debug)]
 pub enum AllCode {
-    // 65
-    Equal,
-    // 66
-    Least,
+    Equal = code::SUB_ALL_EQUAL as isize,
+    Least = code::SUB_ALL_LEAST as isize,
 }
 
 // the condition on the bounds A and C
@@ -34,9 +32,26 @@ impl AllCode {
     pub fn number(self) -> u8
         ensures { result ≡ all_number self }
     {
+        self as u8
+    }
+
+    // The condition on the bounds.
+    pub fn bounds(self) -> Bounds
+        ensures { result ≡ bounds self }
+    {
         match self {
-            AllCode::Equal => code::SUB_ALL_EQUAL,
-            AllCode::Least => code::SUB_ALL_LEAST,
+            AllCode::Equal => Bounds::Same,
+            AllCode::Least => Bounds::RightBelowLeft,
+        }
+    }
+
+    // The bound under which the bodies are compared.
+    pub fn body_bound(self) -> BodyBound
+        ensures { result ≡ bodies_under self }
+    {
+        match self {
+            AllCode::Equal => BodyBound::Left,
+            AllCode::Least => BodyBound::Right,
         }
     }
 }

@@ -3,11 +3,9 @@
 ghost use Rattle.std.specs.Prelude.{◌≡◌};
 ghost use Rattle.rules.specs.Quantifiers.{equal_bounds};
 ghost use Rattle.rules.specs.declared.all_code.AllCode.TheVariants.{Equal};
-ghost use Rattle.rules.specs.declared.all_code.Bounds.TheVariants.{Same};
-ghost use Rattle.rules.specs.declared.all_code.BodyBound.TheVariants.{Left};
 ghost use Rattle.rules.specs.LawsLemmas.{chains_equal, instances_equal, bodies_equal, admitted_equal};
 
-use crate::all_code::{AllCode, BodyBound, Bounds};
+use crate::all_code::AllCode;
 use crate::quantifier::Quantifier;
 
 #[derive(Drop)]
@@ -37,17 +35,5 @@ impl Quantifier for EqualBounds {
             AllCode::Equal => true,
             AllCode::Least => false,
         }
-    }
-
-    fn bounds() -> Bounds
-        ensures { result ≡ Same }
-    {
-        Bounds::Same
-    }
-
-    fn body_bound() -> BodyBound
-        ensures { result ≡ Left }
-    {
-        BodyBound::Left
     }
 }

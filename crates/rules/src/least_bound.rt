@@ -3,11 +3,9 @@
 ghost use Rattle.std.specs.Prelude.{◌≡◌};
 ghost use Rattle.rules.specs.Quantifiers.{least_bound};
 ghost use Rattle.rules.specs.declared.all_code.AllCode.TheVariants.{Least};
-ghost use Rattle.rules.specs.declared.all_code.Bounds.TheVariants.{RightBelowLeft};
-ghost use Rattle.rules.specs.declared.all_code.BodyBound.TheVariants.{Right};
 ghost use Rattle.rules.specs.LawsLemmas.{chains_least, instances_least, bodies_least, admitted_least};
 
-use crate::all_code::{AllCode, BodyBound, Bounds};
+use crate::all_code::AllCode;
 use crate::quantifier::Quantifier;
 
 #[derive(Drop)]
@@ -37,17 +35,5 @@ impl Quantifier for LeastBound {
             AllCode::Equal => true,
             AllCode::Least => true,
         }
-    }
-
-    fn bounds() -> Bounds
-        ensures { result ≡ RightBelowLeft }
-    {
-        Bounds::RightBelowLeft
-    }
-
-    fn body_bound() -> BodyBound
-        ensures { result ≡ Right }
-    {
-        BodyBound::Right
     }
 }

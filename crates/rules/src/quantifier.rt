@@ -18,12 +18,18 @@ pub trait Quantifier {
         ensures { result ≡ rule.admits code };
 
     // The own code's condition on the bounds.
-    fn bounds() -> Bounds
-        ensures { result ≡ bounds rule.own };
+    final fn bounds() -> Bounds
+        ensures { result ≡ bounds rule.own }
+    {
+        Self::code().bounds()
+    }
 
     // The bound under which the own code compares the bodies.
-    fn body_bound() -> BodyBound
-        ensures { result ≡ bodies_under rule.own };
+    final fn body_bound() -> BodyBound
+        ensures { result ≡ bodies_under rule.own }
+    {
+        Self::code().body_bound()
+    }
 
     // The laws, over the judge's tries; each implementation proves them.
     ghost chains: { Chains rule };

@@ -5,14 +5,15 @@
 // The status is 0 exactly if the answer is 0. What keeps it from a verdict is said on standard error, with status 1.
 #![tactic(auto)]
 
-use anyhow::anyhow;
-use report::{RuleName, report, rule_named, verify};
+use anyhow::bail;
+use report::{RuleName, report, verify};
 use std::env;
 use std::io::Read;
 use std::process::ExitCode;
+use std::rt::Env;
 
 fn main(rt: HostRuntime) -> ExitCode {
-    match run(&rt) {
+    match run(&rt, rt.stdin()) {
         Ok(true) => ExitCode::SUCCESS,
         Ok(false) => ExitCode::FAILURE,
         Err(error) => {
@@ -23,27 +24,23 @@ fn main(rt: HostRuntime) -> ExitCode {
 }
 
 // Whether the page is granted.
-fn run(rt: &HostRuntime) -> anyhow::Result<bool> {
+fn run(rt: &(impl Env + Print + AllocGlobal), mut page: impl Read + Drop) -> anyhow::Result<bool> {
     let rule = chosen_rule(rt)?;
     let heap = rt.alloc();
     let mut bytes = Vec::new(heap);
-    rt.stdin().read_to_end(&mut bytes)?;
-    let verdict = verify(rule, bytes.as_mut_slice(), heap);
-    let text = report(heap, verdict)?;
-    rt.print(text.as_str())?;
+    page.read_to_end(&mut bytes)?;
+    let verdict = verify(rule, &mut bytes, heap);
+    rt.print(report(heap, verdict)?)?;
     Ok(verdict.is_granted())
 }
 
-fn chosen_rule(rt: &HostRuntime) -> anyhow::Result<RuleName> {
+fn chosen_rule(rt: &(impl Env + Alloc)) -> anyhow::Result<RuleName> {
     let mut words = env::args(rt)?.skip(1);
     let Some(word) = words.next() else {
         return Ok(RuleName::EqualBounds);
     };
     if words.next().is_some() {
-        return Err(anyhow!("more than one word; one rule is meant, EqualBounds or LeastBound"));
+        bail!("more than one word; one rule is meant, EqualBounds or LeastBound");
     }
-    match rule_named(word.as_str()) {
-        Some(rule) => Ok(rule),
-        None => Err(anyhow!("no rule has that name; the rules are EqualBounds and LeastBound")),
-    }
+    Ok(word.parse()?)
 }

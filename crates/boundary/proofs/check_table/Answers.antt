@@ -1,31 +1,27 @@
-use Rattle.std.proofs.Common.{subst₂, inr}
+use Rattle.std.proofs.Common.{Ok, inl, inr, ap, ◌∙◌, subst₂}
+use Rattle.boundary.proofs.Adopting.{fits, beyond, answer_is}
 use Rattle.boundary.proofs.check_table.Goals as goal
+use Rattle.boundary.specs.Packed.{packed}
 use Rattle.checker.proofs.Copies.{adopted_records}
 use Rattle.checker.specs.Checked.{Checked}
+use Rattle.lines.specs.declared.answer.Answer.TheVariants.{OutOfForm}
 use Rattle.report.specs.RuleNames.{rule_of}
 
-pub returns-in-EqualBounds : goal.returns-in-EqualBounds
-returns-in-EqualBounds c =
+pub returns-in-Ok : goal.returns-in-Ok
+returns-in-Ok c =
+    let adopted = c.in-Ok.ensures.cases in
+    let few = fits c.new-table.result c.args.records.now c.new-table.ensures.records adopted.1 in
+    let lines = adopted_records c.new-table.result c.adopt.new.self c.args.records.now (Ok c.in-Ok.field-0) c.new-table.ensures.records few adopted in
     inr (
-      c.if-n-gt-MAX_ROOM.false,
+      few,
       (
         c.check.result,
-        c.pack-in-EqualBounds.ensures,
-        subst₂ (λ rule xs. Checked (rule_of rule) xs c.check.result) c.in-EqualBounds.ensures
-            (adopted_records c.new-table.result c.adopt.new.self c.args.records.now c.adopt.result c.new-table.ensures.records c.if-n-gt-MAX_ROOM.false
-            c.adopt.ensures.cases) c.check.ensures,
+        c.pack.ensures ∙ ap packed (answer_is c.check.result c.into.result c.into.ensures),
+        subst₂ (λ rule xs. Checked (rule_of rule) xs c.check.result) c.rule_numbered.ensures lines c.check.ensures,
       ),
     )
 
-pub returns-in-LeastBound : goal.returns-in-LeastBound
-returns-in-LeastBound c =
-    inr (
-      c.if-n-gt-MAX_ROOM.false,
-      (
-        c.check-in-LeastBound.result,
-        c.pack-in-LeastBound.ensures,
-        subst₂ (λ rule xs. Checked (rule_of rule) xs c.check-in-LeastBound.result) c.in-LeastBound.ensures
-            (adopted_records c.new-table.result c.adopt.new.self c.args.records.now c.adopt.result c.new-table.ensures.records c.if-n-gt-MAX_ROOM.false
-            c.adopt.ensures.cases) c.check-in-LeastBound.ensures,
-      ),
-    )
+pub returns-in-Err : goal.returns-in-Err
+returns-in-Err c =
+    let over = beyond c.new-table.result c.args.records.now c.new-table.ensures.records c.in-Err.fault.place c.in-Err.ensures.cases.0 in
+    inl (over.0, c.pack-in-Err.ensures ∙ ap packed (c.into-in-Err.ensures ∙ ap OutOfForm over.1))

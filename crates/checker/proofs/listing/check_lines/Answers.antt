@@ -1,45 +1,27 @@
-use Rattle.std.proofs.Common.{sym, ap, ◌∙◌, subst, add-one, arith}
-use Rattle.checker.proofs.Copies.{line_here, earlier_at}
-use Rattle.checker.proofs.Sessions.{tracked_start}
-use Rattle.checker.proofs.Sounds.{sound_none}
+use Rattle.std.proofs.Common.{◌++◌, ◌∷◌, [], take, length, ◌<◌, add-one, None, Some, sym, ap, ◌∙◌, subst, arith}
 use Rattle.checker.proofs.Verdicts.{first_fault, still_sound, still_tracked}
+use Rattle.checker.proofs.Sounds.{take_next}
+use Rattle.checker.proofs.Walks.{line_read}
 use Rattle.checker.proofs.listing.check_lines.Goals as goal
-use Rattle.checker.specs.Decide.{at}
-use Rattle.rules.specs.Faults.{Sound}
-use Rattle.std.proofs.lemmas.List.{take_all}
-
-pub loop-n-init : goal.loop-n-init
-loop-n-init g c =
-    let lines = g.S.LineStore.lines c.args.s.now in
-    (sound_none g.Q.Quantifier.rule lines, tracked_start, c.new-index.ensures lines)
+use Rattle.checker.specs.Checked.{Tested}
+use Rattle.checker.specs.Seen.{Holds}
 
 pub returns-in-Some : goal.returns-in-Some
 returns-in-Some g c =
-    let lines = g.S.LineStore.lines c.args.s.now in let l = c.line-l.result in let n = c.loop-n.n in
-    first_fault g.Q.Quantifier.rule lines n c.loop-n.session.latest c.loop-n.session.env l
-    (line_here lines c.count-count.result n l c.loop-n-test.true c.count-count.ensures c.line-l.ensures)
-    c.loop-n.invariant.0 c.loop-n.invariant.1 c.in-Some.cause c.in-Some.ensures
-
-pub add-requires : goal.add-requires
-add-requires g c =
-    (g.S.LineStore.lines c.args.s.now, c.count-count.result, c.loop-n-test.true, omega arith, c.loop-n.invariant.2)
+    let lines = g.S.LineStore.lines c.args.store.now in let n = c.loop-n.n in let l = c.unwrap_or_default-l.result in let s = c.loop-n.session in
+    let here = line_read lines n c.get.result _ l (omega (arith, c.count-count.ensures)) c.get.ensures c.unwrap_or_default-l.ensures in
+    first_fault g.Q.Quantifier.rule lines n s.latest s.env l here c.loop-n.invariant.0 c.loop-n.invariant.1 c.in-Some.cause
+    (subst (λ xs. Tested g.Q.Quantifier.rule xs s.latest s.env l (Some c.in-Some.cause)) c.new-before.ensures c.in-Some.ensures.tested)
 
 pub loop-n-preserved : goal.loop-n-preserved
 loop-n-preserved g c =
-    let lines = g.S.LineStore.lines c.args.s.now in let l = c.line-l.result in let n = c.loop-n.n in
-    let R = g.Q.Quantifier.rule in let d = c.loop-n.session.latest in let E = c.loop-n.session.env in let count = c.count-count.result in
-    let here = line_here lines count n l c.loop-n-test.true c.count-count.ensures c.line-l.ensures in
-    let after = c.session_after-session in (
-      still_sound R lines n d E l here c.loop-n.invariant.0 c.loop-n.invariant.1 c.in_default.ensures,
-      still_tracked R lines n d E l here c.loop-n.invariant.0 c.loop-n.invariant.1 c.in_default.ensures after.result.latest after.result.env
+    let lines = g.S.LineStore.lines c.args.store.now in let n = c.loop-n.n in let l = c.unwrap_or_default-l.result in let s = c.loop-n.session in
+    let R = g.Q.Quantifier.rule in let after = c.after-session in
+    let less : n < length lines = omega (arith, c.count-count.ensures) in
+    let here = line_read lines n c.get.result _ l less c.get.ensures c.unwrap_or_default-l.ensures in
+    let passed = subst (λ xs. Tested R xs s.latest s.env l None) c.new-before.ensures c.in_default.ensures.tested in (
+      still_sound R lines n s.latest s.env l here c.loop-n.invariant.0 c.loop-n.invariant.1 passed,
+      still_tracked R lines n s.latest s.env l here c.loop-n.invariant.0 c.loop-n.invariant.1 passed after.result.latest after.result.env
           after.ensures.latest after.ensures.env,
-      c.add.ensures lines count
-          (ap (at lines) (add-one n) ∙ sym (c.line-l.ensures ∙ earlier_at lines count n c.loop-n-test.true)) c.loop-n.invariant.2,
-    )
-
-pub returns : goal.returns
-returns g c =
-    let lines = g.S.LineStore.lines c.args.s.now in (
-      c.count-count.ensures,
-      subst (λ xs. Sound g.Q.Quantifier.rule xs) (take_all c.loop-n.n lines (omega (arith, c.count-count.ensures))) c.loop-n.invariant.0,
+      subst (Holds c.fault.new.seen) (ap (λ xs. xs ++ l ∷ []) c.new-before.ensures ∙ sym (ap (λ k. take k lines) (add-one n) ∙ take_next lines n l here)) (c.fault.ensures.seen c.in_default.is),
     )

@@ -8,8 +8,8 @@ use Rattle.page.proofs.form.in_form.Goals as goal
 pub returns : goal.returns
 returns c =
     let s = c.args.place.now in
-    let d = slice_eq-Decides Decides-eqb s c.as_slice.result.now c.eq.result c.eq.ensures in
-    let e = c.as_slice.ensures ∙ c.encode-written.ensures.bytes ∙ ap encoded c.decode.ensures in (
+    let d = slice_eq-Decides Decides-eqb s c.encode.result c.eq.result c.eq.ensures in
+    let e = c.encode.ensures.bytes ∙ ap encoded c.decode.ensures in (
       λ t. (decoded s, decoded_range s, d.0 t ∙ e),
       λ f. d.1 (f.2 ∙ sym (e ∙ ap encoded (ap decoded f.2 ∙ encoded_back f.0 f.1))),
     )

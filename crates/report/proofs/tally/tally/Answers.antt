@@ -1,31 +1,16 @@
-use Rattle.std.proofs.Common.{◌+◌, true, false, sym, refl, ◌∙◌, add-zero, zero-add, arith}
-use Rattle.report.proofs.Counts.{there, found_le, counted_next, counted_all}
+use Rattle.std.proofs.Common.{◌∙◌, rules}
+use Rattle.std.specs.Range.{range_inclusive_start, range_inclusive_end}
+use Rattle.std.proofs.lemmas.Iterator.Consumers.{YieldsList-from_filter, YieldsList-from_rest, count_from_yields_List}
+use Rattle.std.proofs.lemmas.List.Sums.{length-filter}
+use Rattle.report.specs.Verdicts.{between}
 use Rattle.report.proofs.tally.tally.Goals as goal
-use Rattle.report.proofs.tally.tally.Goals.{in-Some+then-within, in-Some+else-within, in_default}
-
-pub loop-n-init : goal.loop-n-init
-loop-n-init g c = zero-add _
-
-pub overflow_add-found : goal.overflow_add-found
-overflow_add-found g c =
-    let lines = g.S.LineStore.lines c.args.store.now in
-    let more =
-    counted_next c.args.low c.args.high lines c.loop-n.n c.loop-n.found c.loop-n.invariant c.in-Some.line true (c.loop-n.found + 1)
-    c.in-Some.ensures c.if-within.ensures refl
-    in
-    omega (arith, found_le c.args.low c.args.high lines (c.loop-n.n + 1) (c.loop-n.found + 1) more)
-
-pub loop-n-preserved : goal.loop-n-preserved
-loop-n-preserved g c =
-    let lines = g.S.LineStore.lines c.args.store.now in
-    let step = counted_next c.args.low c.args.high lines c.loop-n.n c.loop-n.found c.loop-n.invariant in
-    elim c.match-get.branch [
-      | in-Some+then-within w ↦ step w.in-Some.line true c.match-get.found w.in-Some.ensures w.if-within.ensures w.found-is
-      | in-Some+else-within w ↦
-          step w.in-Some.line false c.match-get.found w.in-Some.ensures w.if-within.ensures (w.found-is ∙ sym (add-zero _))
-      | in_default w ↦ absurd (there lines c.loop-n.n c.get.result (omega arith) c.get.ensures w.in_default.not-Some)
-    ]
+use borrow.Author.Tests.{tests}
 
 pub returns : goal.returns
 returns g c =
-    counted_all c.args.low c.args.high (g.S.LineStore.lines c.args.store.now) c.loop-n.n c.loop-n.found c.loop-n.invariant (omega arith)
+    let lines = g.S.LineStore.lines c.args.store.now in
+    let chosen = between (range_inclusive_start c.args.codes) (range_inclusive_end c.args.codes) in
+    count_from_yields_List c.filter.result _ c.count.ensures.ran
+    (YieldsList-from_filter _ (λ l. chosen l.code) (YieldsList-from_rest lines (c.filter.ensures.source ∙ c.iter.ensures))
+    c.filter.ensures.closure (λ x r q k. search (rules, tests)))
+    ∙ length-filter (λ l. chosen l.code) lines

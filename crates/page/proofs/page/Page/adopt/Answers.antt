@@ -1,4 +1,5 @@
 use Rattle.std.proofs.Common.{◌≡◌, ◌-◌, min, sym, refl, ap, ◌∙◌, subst, arith}
+use Rattle.std.proofs.lemmas.Result.{err_from_is_err_and}
 use Rattle.lines.specs.Adopts.{Good, Lowest}
 use Rattle.page.specs.Form.{InForm}
 use Rattle.page.specs.Pages.{place, text, spaces, rows, rows_length}
@@ -6,37 +7,25 @@ use Rattle.page.proofs.Adoption.{from_zero}
 use Rattle.page.proofs.Rows.{rows_take}
 use Rattle.page.proofs.page.Page.adopt.Goals as goal
 
-pub overflow_cast-self : goal.overflow_cast-self
-overflow_cast-self c = omega (arith, c.in-None.ensures.0)
-
-pub overflow_cast-result : goal.overflow_cast-result
-overflow_cast-result c = omega (arith, c.in-None.ensures.0)
-
-pub returns-in-Some : goal.returns-in-Some
-returns-in-Some c =
+pub returns-in_err-self-clause-cases : goal.returns-in_err-self-clause-cases
+returns-in_err-self-clause-cases c =
     let p = c.args.self.now in
-    record {
-      bytes = refl;
-      cases = (
-        subst (λ r. Lowest (Good (λ q. InForm (place (q - 1) (text p))) r) c.args.n c.in-Some.p) (sym (rows_length (spaces p) (text p))) c.in-Some.ensures,
-        refl,
-      );
-      granted = λ h. absurd (omega (arith, h));
-      kept = λ f. f;
-      lender = refl;
-    }
+    let fault = c.in_err-self.field-0.0 in
+    let given = err_from_is_err_and c.from_residual.result c.from_residual.ensures.1 in
+    rw (given.1, given.2) (
+      subst (λ r. Lowest (Good (λ q. InForm (place (q - 1) (text p))) r) c.args.n fault.place) (sym (rows_length (spaces p) (text p))) c.in_err-self.ensures,
+      refl,
+    )
 
-pub returns-in-None : goal.returns-in-None
-returns-in-None c =
+pub returns-clause-cases : goal.returns-clause-cases
+returns-clause-cases c =
     let p = c.args.self.now in
-    let n = c.args.n in
-    let h = c.in-None.ensures in
-    let e : min n (spaces p) ≡ min (spaces p) n = omega arith in
-    let formed = from_zero (text p) n h.1 in
-    record {
-      bytes = refl;
-      cases = (refl, omega (arith, h.0, rows_length (spaces p) (text p)), h.1, ap (λ k. rows k (text p)) e ∙ sym (rows_take (spaces p) n (text p)));
-      granted = λ _. (h.0, formed);
-      kept = λ _. (h.0, formed);
-      lender = refl;
-    }
+    let found = c.in_ok-self.ensures in
+    let e : c.in_ok-self.field-0 ≡ min (spaces p) c.args.n = omega (arith, found.0, found.1) in
+    (found.0, omega (arith, found.1, rows_length (spaces p) (text p)), found.2, ap (λ k. rows k (text p)) e ∙ sym (rows_take (spaces p) c.args.n (text p)))
+
+pub returns-clause-ok : goal.returns-clause-ok
+returns-clause-ok c = let found = c.in_ok-self.ensures in from_zero (text c.args.self.now) c.in_ok-self.field-0 (λ p z l. found.2 p z (omega (arith, found.0)))
+
+pub returns-clause-kept : goal.returns-clause-kept
+returns-clause-kept c = λ _. returns-clause-ok c

@@ -1,40 +1,43 @@
-use Rattle.std.proofs.Common.{◌≡◌, ◌+◌, ◌-◌, ◌*◌, ◌≤◌, min, length, sym, ap, ◌∙◌, subst, arith}
-use Rattle.page.specs.Form.{encoded, decoded, InForm}
-use Rattle.page.specs.Pages.{spaces, text, rows_length}
-use Rattle.page.proofs.Rows.{put_room, put_less, put_rows, put_formed, put_wrote}
+use Rattle.std.proofs.Common.{◌≡◌, ◌+◌, ◌-◌, ◌*◌, ◌≤◌, ◌++◌, ◌∷◌, [], length, sym, ap, ◌∙◌, subst, arith}
+use borrow.Rule.Slice.PartMut.{put_mid}
+use Rattle.page.specs.Form.{pasted, encoded, decoded, InForm}
+use Rattle.page.specs.Pages.{place, text, rows, rows_length}
+use Rattle.page.proofs.Rows.{rows-pasted, formed-pasted}
 use Rattle.page.proofs.Written.{put_mid-pasted, length-encoded}
 use Rattle.page.proofs.page.PageLineStore.put.Goals as goal
+use Rattle.page.proofs.page.PageLineStore.put.Goals.{After-copy_from_slice}
 
-pub slice_bounds-copy_from_slice-end : goal.slice_bounds-copy_from_slice-end
-slice_bounds-copy_from_slice-end c =
+fits : (c : After-copy_from_slice) → 46 * c.args.self.now.count + 46 ≤ length (text c.args.self.now)
+fits c = let p = c.args.self.now in omega (arith, p.within)
+
+wrote : (c : After-copy_from_slice) → let p = c.args.self.now in put_mid (46 * p.count) (46 * p.count + 46 - 46 * p.count) (text p) c.copy_from_slice.new.self ≡ pasted (46 * p.count) (encoded c.args.line) (text p)
+wrote c =
     let p = c.args.self.now in
-    let l = rows_length (min p.count (spaces p)) (text p) in
-    let h : 46 * c.count-n.result + 46 ≤ length (text p) = omega arith in
-    h
-
-pub overflow_add-self : goal.overflow_add-self
-overflow_add-self c = let p = c.args.self.now in omega (arith, rows_length (min p.count (spaces p)) (text p))
-
-pub overflow_add-result : goal.overflow_add-result
-overflow_add-result c = let p = c.args.self.now in omega (arith, rows_length (min p.count (spaces p)) (text p))
-
-pub returns : goal.returns
-returns c =
-    let p = c.args.self.now in
-    let s = text p in
-    let n = c.count-n.result in
     let l = c.args.line in
-    let e = c.encode.ensures.bytes in
-    let counted = c.count-n.ensures in
-    let free : n ≡ spaces p → ⊥ = λ h. c.if-n-room.false (h ∙ sym c.room.ensures) in
-    let wrote = put_mid-pasted (46 * n) (46 * n + 46 - 46 * n) s c.copy_from_slice.new.self (encoded l) (c.copy_from_slice.ensures.after ∙ e) (omega (arith, length-encoded l)) in
-    record {
-      room = put_room s _ p.count n l counted free wrote;
-      cases = (
-        put_less s _ p.count n l counted free wrote,
-        ap (λ k. k + 1) counted,
-        put_rows s _ p.count n l counted free wrote (ap decoded (sym e) ∙ c.encode.ensures.back),
-      );
-      kept = put_formed s _ p.count n l counted free wrote (subst InForm e c.encode.ensures.form);
-      bytes = put_wrote s _ p.count n l counted free wrote;
-    }
+    put_mid-pasted (46 * p.count) (46 * p.count + 46 - 46 * p.count) (text p) c.copy_from_slice.new.self (encoded l) (c.copy_from_slice.ensures.after ∙ c.encode.ensures.bytes) (omega (arith, length-encoded l))
+
+pub returns-clause-cases : goal.returns-clause-cases
+returns-clause-cases c =
+    let p = c.args.self.now in
+    let n = p.count in
+    let s = text p in
+    let l = c.args.line in
+    let at = (goal.at.returns-clause-cases c).After-copy_from_slice in
+    let back = ap decoded (sym c.encode.ensures.bytes) ∙ c.encode.ensures.back in (
+      omega (arith, rows_length n s),
+      ap (λ k. k + 1) (sym (rows_length n s)),
+      ap (rows (n + 1)) (wrote at) ∙ rows-pasted n (encoded l) s (fits at) (length-encoded l) ∙ ap (λ x. rows n s ++ x ∷ []) back,
+    )
+
+pub returns-clause-kept : goal.returns-clause-kept
+returns-clause-kept c =
+    let p = c.args.self.now in
+    let l = c.args.line in
+    let at = (goal.at.returns-clause-kept c).After-copy_from_slice in
+    let here = subst InForm c.encode.ensures.bytes c.encode.ensures.form in
+    λ f k h. subst (λ u. InForm (place k u)) (sym (wrote at)) (formed-pasted p.count (encoded l) (text p) (fits at) (length-encoded l) here f k h)
+
+pub returns-clause-bytes : goal.returns-clause-bytes
+returns-clause-bytes c =
+    let p = c.args.self.now in
+    wrote (goal.at.returns-clause-bytes c).After-copy_from_slice ∙ ap (λ k. pasted (46 * k) (encoded c.args.line) (text p)) (sym (rows_length p.count (text p)))

@@ -1,0 +1,45 @@
+// Cause 4: whether an equal line stands earlier. A set on the heap tells; where memory is refused, the lines are read again, with the same answer.
+
+ghost use Rattle.std.specs.Prelude.{◌≡◌, [], ◌∷◌, ◌++◌, false, ◌↔◌, IsTrue};
+ghost use Rattle.std.specs.List.{Contains};
+ghost use Rattle.checker.specs.Seen.{Holds};
+
+use crate::prefix::Prefix;
+use lines::{Line, LineStore};
+use std::alloc::Global;
+use std::collections::HashSet;
+
+// The lines before a line, or None where memory was refused.
+#[derive(Drop)]
+pub(crate) struct Seen {
+    lines: Option<HashSet<Line>>,
+}
+
+impl Seen {
+    // No lines, with room for so many.
+    pub(crate) fn new(heap: Global, room: u16) -> Seen
+        ensures { Holds result [] }
+    {
+        Seen {
+            lines: HashSet::with_capacity(heap, room.into()).ok(),
+        }
+    }
+
+    // Whether l stands among the lines before it. From now on it is one of those seen.
+    pub(crate) fn repeats<S: LineStore>(&mut self, before: &Prefix<S>, l: Line) -> bool
+        requires { Holds self.old before.now }
+        ensures repeats { IsTrue result ↔ Contains before.now l }
+        ensures seen { result ≡ false → Holds self.new (before.now ++ l ∷ []) }
+    {
+        let Some(lines) = &mut self.lines else {
+            return before.contains(l);
+        };
+        match lines.insert(l) {
+            Ok(added) => !added,
+            Err(_) => {
+                self.lines = None;
+                false
+            }
+        }
+    }
+}
