@@ -6,9 +6,9 @@ ghost use Rattle.report.specs.RuleNames.{rule_of};
 ghost use Rattle.report.specs.Verdicts.{Answered, concluded, listing};
 
 use crate::rule_name::RuleName;
-use crate::tally::tally;
+use crate::tally::Tally;
 use crate::verdict::Verdict;
-use lines::{Answer, code};
+use lines::Answer;
 use page::{LINE_BYTES, Page};
 use std::alloc::Global;
 
@@ -44,10 +44,14 @@ fn sound(rule: RuleName, bytes: &mut [u8], heap: Global) -> Result<Verdict, Answ
     let mut page = Page::new(bytes);
     page.adopt(places)?;
     let count = rule.check(&page, heap)?;
+    let Tally {
+        judgments,
+        definitions,
+    } = Tally::of(&page);
     Ok(Verdict {
         rule,
         answer: Answer::Granted(count),
-        judgments: tally(&page, code::IS_ENV..=code::HAS_REC),
-        definitions: tally(&page, code::LET_TYPE..=code::LET_TERM),
+        judgments,
+        definitions,
     })
 }

@@ -1,8 +1,9 @@
-use Rattle.std.proofs.Common.{Ok, Err, refl, ◌∙◌, arith}
+use Rattle.std.proofs.Common.{Ok, Err, ap, ◌∙◌, arith}
 use Rattle.page.specs.Pages.{standing}
 use Rattle.report.proofs.Adopting.{err_is, lines_are, checked, refused}
 use Rattle.report.proofs.check_page.sound.Goals as goal
 use Rattle.report.specs.RuleNames.{rule_of}
+use Rattle.report.specs.Verdicts.{coded_between}
 
 pub returns-in_err-adopt-clause-refused : goal.returns-in_err-adopt-clause-refused
 returns-in_err-adopt-clause-refused c =
@@ -33,11 +34,11 @@ returns-clause-judgments c =
     let page = c.new-page.result in
     let same = lines_are page c.args.bytes.now c.div_ceil-places.result c.new-page.ensures.bytes c.div_ceil-places.ensures
     _ (standing page) (standing c.adopt.new.self) c.in_ok-adopt.ensures.cases in
-    c.tally.ensures ∙ rw (c.new.ensures.start, c.new.ensures.end, same) refl
+    c.of-judgments.ensures.judgments ∙ ap (coded_between 50 79) same
 
 pub returns-clause-definitions : goal.returns-clause-definitions
 returns-clause-definitions c =
     let page = c.new-page.result in
     let same = lines_are page c.args.bytes.now c.div_ceil-places.result c.new-page.ensures.bytes c.div_ceil-places.ensures
     _ (standing page) (standing c.adopt.new.self) c.in_ok-adopt.ensures.cases in
-    c.tally-2.ensures ∙ rw (c.new-2.ensures.start, c.new-2.ensures.end, same) refl
+    c.of-judgments.ensures.definitions ∙ ap (coded_between 91 92) same
