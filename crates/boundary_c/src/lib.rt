@@ -16,6 +16,7 @@ ghost use Rattle.boundary.specs.Packed.{OnPage, OnTable};
 use lines::Line;
 use std::alloc::Global;
 
+// Kept beside the functions of the same names in boundary: an export is a static library's own.
 #[unsafe(no_mangle)]
 pub extern "C" fn check_page(heap: Global, bytes: &mut [u8], rule: u8) -> u64
     ensures answer { OnPage rule bytes.old result }

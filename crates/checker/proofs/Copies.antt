@@ -1,5 +1,5 @@
 -- A table that adopts all of its records has them for its lines.
-use Rattle.std.proofs.Common.{◌≡◌, ℕ, ◌≤◌, List, length, Ok, Err, Result, ap, ◌∙◌, arith, length-take}
+use Rattle.std.proofs.Common.{◌≡◌, ℕ, ◌≤◌, List, length, Ok, Err, Result, IsOk, refl, ap, ◌∙◌, arith, length-take}
 use Rattle.lines.specs.Adopts.{Adopted}
 use Rattle.lines.specs.declared.fault.OutOfForm.{OutOfForm}
 use Rattle.lines.specs.declared.line.Line.{Line}
@@ -10,6 +10,11 @@ use Rattle.tables.specs.declared.line_table.LineTable.{LineTable}
 pub adopted_all : (all xs ys : List Line) (n : ℕ) (r : Result ℕ OutOfForm) → n ≡ length all → Adopted (λ _. Unit {0}) all n xs ys r → ys ≡ all
 adopted_all all xs ys n (Ok m) e a = a.3 ∙ take_all n all (omega arith)
 adopted_all all xs ys n (Err fault) e a = absurd (a.0.3 (omega arith, tt))
+
+pub adopted_ok : (t u : LineTable) (xs : List Line) (r : Result ℕ OutOfForm) → records t ≡ xs → length xs ≤ 65535
+    → Adopted (λ _. Unit {0}) (every t) (length xs) (standing t) (standing u) r → IsOk r
+adopted_ok t u xs (Ok m) same small a = refl
+adopted_ok t u xs (Err fault) same small a = let long : length (records t) ≡ length xs = ap length same in absurd (a.0.3 (simp length-take (omega arith), tt))
 
 pub adopted_records : (t u : LineTable) (xs : List Line) (r : Result ℕ OutOfForm) → records t ≡ xs → length xs ≤ 65535
     → Adopted (λ _. Unit {0}) (every t) (length xs) (standing t) (standing u) r → standing u ≡ xs

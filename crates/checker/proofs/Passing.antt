@@ -5,11 +5,11 @@ use Rattle.checker.proofs.Sessions.{Tracked}
 use Rattle.checker.specs.Decide.{At, in_range, follows}
 use Rattle.lines.specs.declared.line.Line.{Line}
 use Rattle.rules.proofs.Codes.{sub_code, has_code, line_of, says, reads}
-use Rattle.rules.proofs.Whole.{none_some}
 use Rattle.rules.specs.Follows.{TypeNumbered, TermNumbered, Follows}
 use Rattle.rules.specs.Statements.{TypeLine, top', var', arrow', all', rec', TermLine, top_term', var_term', fun', appl', fun2', appl2', fold_term', unfold_term', rec_term', EnvLine, empty', with_term', with_type', SubRule, s_refl, s_trans, s_var, s_top, s_arrow, s_all, HasRule, h_subsumed, h_var, h_top, h_fun, h_appl, h_fun2, h_appl2, h_fold, h_unfold, h_rec, Statement, type_line, term_line, env_line, statement}
 use Rattle.rules.specs.declared.all_code.AllCode.TheVariants.{Equal, Least}
 use Rattle.std.proofs.lemmas.Bool.{eq-eqb, ne_eqb, le-leb, lt-leb, lt-ltb, le-ltb}
+use Rattle.std.proofs.lemmas.Option.{none-some}
 
 sub_in : (s : SubRule) → in_range 60 66 (sub_code s) ≡ true
 sub_in s_refl = refl
@@ -45,7 +45,7 @@ module _ (L : At) (none_at_0 : (L 0).code ≡ 0) (d E : ℕ) (kept : Tracked (re
 
   nonzero_line : (n : ℕ) {s : Statement} → statement (L n) ≡ Some s → eqb n 0 ≡ false
   nonzero_line n e =
-      ne_eqb n 0 (λ z. none_some (sym (says (L n) 0 (ap (λ k. (L k).code) z ∙ none_at_0)) ∙ e))
+      ne_eqb n 0 (λ z. none-some _ (sym (says (L n) 0 (ap (λ k. (L k).code) z ∙ none_at_0)) ∙ e))
 
   type_passes : (t : TypeLine) (l : Line) → TypeNumbered t → follows L d E (line_of (type_line t) l) ≡ true
   type_passes top' l h = refl

@@ -4,13 +4,12 @@ use Rattle.lines.specs.Stores.{numbered}
 use Rattle.std.proofs.lemmas.Bool.{both_ways}
 use Rattle.std.proofs.lemmas.List.Elements.{Contains-append_left, Contains-append_right, Contains-push, Contains-push_cases}
 use Rattle.std.proofs.lemmas.List.Sorted.{Contains-permutation, IsPermutation-sym}
-use Rattle.std.proofs.lemmas.Option.{slice_get-get_or, slice_get_within, get_or_from_slice_get}
+use Rattle.std.proofs.lemmas.Option.{none-some, slice_get-get_or, slice_get_within, get_or_from_slice_get}
 use Rattle.std.proofs.lemmas.Map.Views.{Contains-from_any}
 use Rattle.std.specs.Bool.{IsTrue}
 use Rattle.std.specs.HashSet.{HashSet, contains, keys}
 use Rattle.std.specs.List.{Contains, list_any}
 use Rattle.std.specs.List.Sorted.{IsPermutation}
-use Rattle.rules.proofs.Whole.{none_some}
 
 or_left : (a b : Bool) → a ≡ true → a || b ≡ true
 or_left true b e = refl
@@ -60,5 +59,5 @@ pub numbered_from_Contains : {X : Type 0} (xs : List X) (x : X) → Contains xs 
 numbered_from_Contains xs x (k, h, e) = (suc k, slice_get-get_or xs k x h ∙ ap Some e)
 
 pub Contains-numbered : {X : Type 0} (xs : List X) (x : X) (n : ℕ) → numbered xs n ≡ Some x → Contains xs x
-Contains-numbered xs x zero e = absurd (none_some e)
+Contains-numbered xs x zero e = absurd (none-some _ e)
 Contains-numbered xs x (suc n) e = (n, slice_get_within xs n x e, get_or_from_slice_get xs n x x e)

@@ -7,12 +7,13 @@ use Rattle.lines.specs.declared.answer.Cause.TheVariants.{Column, Reference, Rep
 use Rattle.lines.specs.declared.answer.Cause.{Cause}
 use Rattle.lines.specs.declared.line.Line.{Line}
 use Rattle.rules.proofs.Codes.{says, code_read, line_says}
-use Rattle.rules.proofs.Whole.{none_some, numbered_within, numbered_beyond, defines_on, fine_right, right}
+use Rattle.rules.proofs.Whole.{numbered_within, numbered_beyond, defines_on, fine_right, right}
 use Rattle.rules.specs.Faults.{Right, Fine, Sound}
 use Rattle.rules.specs.Follows.{Defines, type_defined, term_defined, Session, nothing_defined, latest_defined, Follows, define_type, define_term}
 use Rattle.rules.specs.Quantifiers.{Rule}
 use Rattle.rules.specs.Statements.{Statement, env_line, empty', let_type, let_term, statement, said, Get}
 use Rattle.std.proofs.lemmas.Bool.{cases_order, cases_eq, cases_lt, ne_eqb}
+use Rattle.std.proofs.lemmas.Option.{none-some}
 
 -- d is the latest definition and E the session environment; E is 0 where there is no session yet
 pub record Tracked (G : Get) (d E : ℕ) : Type 0 where
@@ -24,8 +25,8 @@ pub record Tracked (G : Get) (d E : ℕ) : Type 0 where
   pub fresh : E ≡ 0 → d ≡ 0
 
 silent : (G : Get) (m F : ℕ) → G m ≡ None → Defines G m F → ⊥
-silent G m F e (type_defined f) = none_some (sym e ∙ f)
-silent G m F e (term_defined f) = none_some (sym e ∙ f)
+silent G m F e (type_defined f) = none-some _ (sym e ∙ f)
+silent G m F e (term_defined f) = none-some _ (sym e ∙ f)
 
 not_a_definition : (G : Get) (m F : ℕ) → G m ≡ Some (env_line empty') → Defines G m F → ⊥
 not_a_definition G m F e (type_defined f) = let z : ◌≡◌ {A = ℕ} 0 1 = cc in omega arith
@@ -142,7 +143,7 @@ term_session : {G : Get} {name A b p F d : ℕ} → Follows G (let_term name A b
 term_session (define_term {E = E} h e x) = (E, h)
 
 nonzero : (before : List Line) (m : ℕ) (k : Line) → numbered before m ≡ Some k → m ≡ 0 → ⊥
-nonzero before zero k e z = none_some e
+nonzero before zero k e z = none-some _ e
 nonzero before (suc m) k e z = omega arith
 
 said_same : (xs ys : List Line) (m : ℕ) → numbered xs m ≡ numbered ys m → said xs m ≡ said ys m
@@ -178,7 +179,7 @@ module _ (R : Rule) (lines : List Line) (n d E : ℕ) (l : Line) (here : numbere
 
   -- a second line of the empty environment would repeat the first
   first : statement l ≡ Some (env_line empty') → (m : ℕ) → G m ≡ Some (env_line empty') → ⊥
-  first e zero f = none_some f
+  first e zero f = none-some _ f
   first e (suc m) f =
       let (k, g, same, _) = right R (take n lines) sound m (env_line empty') f in
       right_here _ e Repeated (suc m) (g ∙ ap Some (same ∙ sym (line_says l _ e (right_here _ e Column))))

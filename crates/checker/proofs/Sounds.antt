@@ -6,11 +6,11 @@ use Rattle.lines.specs.declared.answer.Cause.TheVariants.{Code, Column, Referenc
 use Rattle.lines.specs.declared.answer.Cause.{Cause}
 use Rattle.lines.specs.declared.line.Line.{Line}
 use Rattle.rules.proofs.Grow.{added_sound}
-use Rattle.rules.proofs.Whole.{none_some}
 use Rattle.rules.specs.Faults.{admitted, numbers, AllZero, AllName, Right, AtFault, Fine, Sound}
 use Rattle.rules.specs.Follows.{Follows}
 use Rattle.rules.specs.Quantifiers.{Rule}
 use Rattle.rules.specs.Statements.{Statement, statement, said, columns}
+use Rattle.std.proofs.lemmas.Option.{none-some}
 
 pub each_cause : (P : Cause → Type 0) → P Code → P Column → P Reference → P Repeated → P Unfounded → (c : Cause) → P c
 each_cause P a b c d e Code = a
@@ -58,7 +58,7 @@ module _ (R : Rule) (before : List Line) (l : Line) (s : Statement) where
             fine_from follows = (s, e, each_cause (Right R before l s) code zeros names new follows)
 
 pub take_next : {X : Type 0} (xs : List X) (n : ℕ) (x : X) → numbered xs (suc n) ≡ Some x → take (suc n) xs ≡ take n xs ++ x ∷ []
-take_next [] n x e = absurd (none_some e)
+take_next [] n x e = absurd (none-some _ e)
 take_next (y ∷ xs) zero x e = let same : y ≡ x = cc in ap (λ z. z ∷ []) same
 take_next (y ∷ xs) (suc n) x e = ap (λ ys. y ∷ ys) (take_next xs n x e)
 

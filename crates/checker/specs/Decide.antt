@@ -1,5 +1,5 @@
 -- The checker's tests over line numbers, in the order of the codes. L n is line n, and a line of code 0 where there is none.
-use Rattle.std.specs.Prelude.{ℕ, ◌+◌, Bool, true, false, if◌then◌else◌, not, ◌&&◌, List, take, Some, None, Option, ◌==◌, nat_le, nat_lt}
+use Rattle.std.specs.Prelude.{ℕ, ◌+◌, Bool, true, false, if◌then◌else◌, not, ◌&&◌, List, Some, None, Option, ◌==◌, nat_le, nat_lt}
 use Rattle.lines.specs.Stores.{numbered}
 use Rattle.lines.specs.declared.line.Line.{Line}
 use Rattle.rules.specs.Faults.{numbers}
@@ -17,10 +17,6 @@ At = ℕ → Line
 
 abbrev pub at : List Line → At
 at lines n = line_or_none (numbered lines n)
-
--- the first n lines
-abbrev pub earlier : List Line → ℕ → At
-earlier lines n = at (take n lines)
 
 abbrev pub in_range : (low high n : ℕ) → Bool
 in_range low high n = nat_le low n && nat_le n high
@@ -76,13 +72,16 @@ raise_var L k l =
     (l.c4 == 0) && l.c5 == 0
     && (if nat_le k l.c2 then l.c3 == l.c1 else (L l.c3).code == 11 && (L l.c3).c1 == k + 1)
 
+-- a type of two parts: j for the first, and the second has its own
+abbrev pub raise_parts : At → (code second : ℕ) → (A : Line) → Line → Bool
+raise_parts L code second A l =
+    ((L l.c3).code == code) && raises L l.c4 A.c1 l.c2 (L l.c3).c1 && raises L l.c5 A.c2 second (L l.c3).c2
+
 abbrev pub raise_arrow : At → (A : Line) → Line → Bool
-raise_arrow L A l =
-    ((L l.c3).code == 12) && raises L l.c4 A.c1 l.c2 (L l.c3).c1 && raises L l.c5 A.c2 l.c2 (L l.c3).c2
+raise_arrow L A l = raise_parts L 12 l.c2 A l
 
 abbrev pub raise_all : At → (A : Line) → Line → Bool
-raise_all L A l =
-    ((L l.c3).code == 13) && raises L l.c4 A.c1 l.c2 (L l.c3).c1 && raises L l.c5 A.c2 (l.c2 + 1) (L l.c3).c2
+raise_all L A l = raise_parts L 13 (l.c2 + 1) A l
 
 abbrev pub raise_rec : At → (A : Line) → Line → Bool
 raise_rec L A l = (L l.c3).code == 14 && raises L l.c4 A.c1 (l.c2 + 1) (L l.c3).c1 && l.c5 == 0
@@ -271,11 +270,15 @@ abbrev pub has_top : At → Line → Bool
 has_top L l =
     ((L l.c2).code == 20) && (L l.c3).code == 10 && is_env L l.c4 l.c1 && l.c5 == 0 && l.c6 == 0
 
-abbrev pub has_fun : At → Line → Bool
-has_fun L l =
-    ((L l.c2).code == 22) && (L l.c3).code == 12 && (L l.c2).c1 == (L l.c3).c1
-    && has_type L l.c4 (L l.c4).c1 (L l.c2).c2 (L l.c3).c2 && binds_term L (L l.c4).c1 l.c1 (L l.c2).c1
+-- a function of a term or of a type: the codes of the term, of its type and of the binding
+abbrev pub has_function : At → (term arrow binding : ℕ) → Line → Bool
+has_function L term arrow binding l =
+    ((L l.c2).code == term) && (L l.c3).code == arrow && (L l.c2).c1 == (L l.c3).c1
+    && has_type L l.c4 (L l.c4).c1 (L l.c2).c2 (L l.c3).c2 && pair L binding (L l.c4).c1 l.c1 (L l.c2).c1
     && l.c5 == 0 && l.c6 == 0
+
+abbrev pub has_fun : At → Line → Bool
+has_fun L = has_function L 22 12 31
 
 abbrev pub has_appl : At → Line → Bool
 has_appl L l =
@@ -283,10 +286,7 @@ has_appl L l =
     && (L (L l.c4).c3).c2 == l.c3 && has_type L l.c5 l.c1 (L l.c2).c2 (L (L l.c4).c3).c1 && l.c6 == 0
 
 abbrev pub has_fun2 : At → Line → Bool
-has_fun2 L l =
-    ((L l.c2).code == 24) && (L l.c3).code == 13 && (L l.c2).c1 == (L l.c3).c1
-    && has_type L l.c4 (L l.c4).c1 (L l.c2).c2 (L l.c3).c2 && binds_type L (L l.c4).c1 l.c1 (L l.c2).c1
-    && l.c5 == 0 && l.c6 == 0
+has_fun2 L = has_function L 24 13 32
 
 abbrev pub has_appl2 : At → Line → Bool
 has_appl2 L l =

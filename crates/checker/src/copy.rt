@@ -24,6 +24,6 @@ pub(crate) fn check_records<Q: Quantifier>(
 {
     let n = records.len();
     let mut table = LineTable::new(records);
-    let _ = table.adopt(n);
+    table.adopt(n).unwrap();
     check_lines::<Q, LineTable>(&table, heap)
 }

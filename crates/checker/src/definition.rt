@@ -7,6 +7,7 @@ use crate::prefix::Prefix;
 use lines::{Line, LineStore, code};
 
 // The latest definition and the session environment; 0 where there is none.
+// Kept as plain numbers: each is compared with a column, in which 0 stands for none as well.
 #[derive(Clone, Copy, Default)]
 pub(crate) struct Session {
     pub latest: u16,

@@ -24,6 +24,7 @@ fn numbered_variable(variable: u8, l: Line) -> bool
 pub(crate) fn follows<S: LineStore>(before: &Prefix<S>, session: Session, l: Line) -> bool
     ensures { result ≡ follows (at before.now) session.latest session.env l }
 {
+    // Kept as a match, here and in the rules: the checker decides a line by ranges of codes, a function a rule.
     match l.code {
         code::TYPE_TOP..=code::TYPE_REC => numbered_variable(code::TYPE_VAR, l),
         code::TERM_TOP..=code::TERM_REC => numbered_variable(code::TERM_VAR, l),

@@ -7,6 +7,7 @@ ghost use Rattle.checker.specs.Decide.{at, pair, triple, judged, raises, puts, b
 use lines::{Line, LineStore, code};
 use std::marker::Model;
 
+// Kept beside the line that is tested: in a struct of both, each column of the line would be read through it.
 #[derive(Drop)]
 pub(crate) struct Prefix<'a, S: LineStore> {
     store: &'a S,
@@ -33,6 +34,7 @@ impl<'a, S: LineStore> Prefix<'a, S> {
     }
 
     // Line m, or a line of code 0 where there is none.
+    // Kept as a line and no Option: each test asks for a code first, and none asks for 0, so that no test has a case for none.
     pub(crate) fn line(&self, m: u16) -> Line
         ensures { result ≡ at self.now m }
     {
@@ -53,7 +55,8 @@ impl<'a, S: LineStore> Prefix<'a, S> {
     }
 
     // Whether line p has this code and these first columns.
-    fn pair(&self, code: u8, p: u16, c1: u16, c2: u16) -> bool
+    // Kept apart by their number of columns, and raises and puts for a j that may be 65,536: over an array of columns each test would build two.
+    pub(crate) fn pair(&self, code: u8, p: u16, c1: u16, c2: u16) -> bool
         ensures { result ≡ pair (at self.now) code p c1 c2 }
     {
         let l = self.line(p);
@@ -78,14 +81,14 @@ impl<'a, S: LineStore> Prefix<'a, S> {
         ensures { result ≡ raises (at self.now) p a j c }
     {
         let l = self.line(p);
-        l.code == code::RAISE && l.c1 == a && l.c2 as u32 == j && l.c3 == c
+        l.code == code::RAISE && l.c1 == a && u32::from(l.c2) == j && l.c3 == c
     }
 
     pub(crate) fn puts(&self, p: u16, b: u16, j: u32, a: u16, c: u16) -> bool
         ensures { result ≡ puts (at self.now) p b j a c }
     {
         let l = self.line(p);
-        l.code == code::PUT && l.c1 == b && l.c2 as u32 == j && l.c3 == a && l.c4 == c
+        l.code == code::PUT && l.c1 == b && u32::from(l.c2) == j && l.c3 == a && l.c4 == c
     }
 
     pub(crate) fn bound_is(&self, p: u16, e: u16, k: u16, b: u16) -> bool

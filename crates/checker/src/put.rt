@@ -32,14 +32,14 @@ fn put_var<S: LineStore>(before: &Prefix<S>, k: u16, l: Line) -> bool
         return l.c4 == l.c3;
     }
     let c = before.line(l.c4);
-    c.code == code::TYPE_VAR && c.c1 as u32 + 1 == k as u32
+    c.code == code::TYPE_VAR && c.c1.checked_add(1) == Some(k)
 }
 
 fn put_arrow<S: LineStore>(before: &Prefix<S>, b: Line, l: Line) -> bool
     ensures { result ≡ put_arrow (at before.now) b l }
 {
     let c = before.line(l.c4);
-    let j = l.c2 as u32;
+    let j = u32::from(l.c2);
     c.code == code::TYPE_ARROW
         && before.puts(l.c5, b.c1, j, l.c3, c.c1)
         && before.puts(l.c6, b.c2, j, l.c3, c.c2)
@@ -51,7 +51,7 @@ fn put_all<S: LineStore>(before: &Prefix<S>, b: Line, l: Line) -> bool
 {
     let c = before.line(l.c4);
     let raised = before.line(l.c6).c3;
-    let j = l.c2 as u32;
+    let j = u32::from(l.c2);
     c.code == code::TYPE_ALL
         && before.puts(l.c5, b.c1, j, l.c3, c.c1)
         && before.raises(l.c6, l.c3, 0, raised)
@@ -63,7 +63,7 @@ fn put_rec<S: LineStore>(before: &Prefix<S>, b: Line, l: Line) -> bool
 {
     let c = before.line(l.c4);
     let raised = before.line(l.c5).c3;
-    let j = l.c2 as u32;
+    let j = u32::from(l.c2);
     c.code == code::TYPE_REC
         && before.raises(l.c5, l.c3, 0, raised)
         && before.puts(l.c6, b.c1, j + 1, raised, c.c1)

@@ -1,7 +1,7 @@
 // 40: C is A with every type variable above j raised by 1. Columns A, j, C and a premise for each part.
 
 ghost use Rattle.std.specs.Prelude.{◌≡◌};
-ghost use Rattle.checker.specs.Decide.{at, raise, raise_by, raise_top, raise_var, raise_arrow, raise_all, raise_rec};
+ghost use Rattle.checker.specs.Decide.{at, raise, raise_by, raise_top, raise_var, raise_parts, raise_arrow, raise_all, raise_rec};
 
 use crate::prefix::Prefix;
 use lines::{Line, LineStore, code};
@@ -22,34 +22,36 @@ fn raise_var<S: LineStore>(before: &Prefix<S>, k: u16, l: Line) -> bool
         return l.c3 == l.c1;
     }
     let c = before.line(l.c3);
-    c.code == code::TYPE_VAR && c.c1 as u32 == k as u32 + 1
+    c.code == code::TYPE_VAR && k.checked_add(1) == Some(c.c1)
+}
+
+// A type of two parts: j for the first, and the second has its own.
+fn raise_parts<S: LineStore>(before: &Prefix<S>, code: u8, second: u32, a: Line, l: Line) -> bool
+    ensures { result ≡ raise_parts (at before.now) code second a l }
+{
+    let c = before.line(l.c3);
+    c.code == code
+        && before.raises(l.c4, a.c1, l.c2.into(), c.c1)
+        && before.raises(l.c5, a.c2, second, c.c2)
 }
 
 fn raise_arrow<S: LineStore>(before: &Prefix<S>, a: Line, l: Line) -> bool
     ensures { result ≡ raise_arrow (at before.now) a l }
 {
-    let c = before.line(l.c3);
-    let j = l.c2 as u32;
-    c.code == code::TYPE_ARROW
-        && before.raises(l.c4, a.c1, j, c.c1)
-        && before.raises(l.c5, a.c2, j, c.c2)
+    raise_parts(before, code::TYPE_ARROW, l.c2.into(), a, l)
 }
 
 fn raise_all<S: LineStore>(before: &Prefix<S>, a: Line, l: Line) -> bool
     ensures { result ≡ raise_all (at before.now) a l }
 {
-    let c = before.line(l.c3);
-    let j = l.c2 as u32;
-    c.code == code::TYPE_ALL
-        && before.raises(l.c4, a.c1, j, c.c1)
-        && before.raises(l.c5, a.c2, j + 1, c.c2)
+    raise_parts(before, code::TYPE_ALL, u32::from(l.c2) + 1, a, l)
 }
 
 fn raise_rec<S: LineStore>(before: &Prefix<S>, a: Line, l: Line) -> bool
     ensures { result ≡ raise_rec (at before.now) a l }
 {
     let c = before.line(l.c3);
-    let j = l.c2 as u32;
+    let j = u32::from(l.c2);
     c.code == code::TYPE_REC && before.raises(l.c4, a.c1, j + 1, c.c1) && l.c5 == 0
 }
 

@@ -26,6 +26,7 @@ impl Seen {
     }
 
     // Whether l stands among the lines before it. From now on it is one of those seen.
+    // Kept as clauses, here and for the test of a line: Holds is about two values, and breaks where a line is repeated.
     pub(crate) fn repeats<S: LineStore>(&mut self, before: &Prefix<S>, l: Line) -> bool
         requires { Holds self.old before.now }
         ensures repeats { IsTrue result ↔ Contains before.now l }

@@ -1,7 +1,7 @@
 // 70 to 79: a : A in E. Columns E, a, A and three premises.
 
 ghost use Rattle.std.specs.Prelude.{◌≡◌};
-ghost use Rattle.checker.specs.Decide.{at, typed, has_subsumed, has_var, has_top, has_fun, has_appl, has_fun2, has_appl2, has_fold, has_unfold, has_rec};
+ghost use Rattle.checker.specs.Decide.{at, typed, has_subsumed, has_var, has_top, has_function, has_fun, has_appl, has_fun2, has_appl2, has_fold, has_unfold, has_rec};
 
 use crate::prefix::Prefix;
 use lines::{Line, LineStore, code};
@@ -33,19 +33,26 @@ fn has_top<S: LineStore>(before: &Prefix<S>, l: Line) -> bool
         && l.c6 == 0
 }
 
-fn has_fun<S: LineStore>(before: &Prefix<S>, l: Line) -> bool
-    ensures { result ≡ has_fun (at before.now) l }
+// A function of a term or of a type, by the codes of the term, of its type and of the binding.
+fn has_function<S: LineStore>(before: &Prefix<S>, term: u8, arrow: u8, binding: u8, l: Line) -> bool
+    ensures { result ≡ has_function (at before.now) term arrow binding l }
 {
     let a = before.line(l.c2);
     let t = before.line(l.c3);
     let f = before.line(l.c4).c1;
-    a.code == code::TERM_FUN
-        && t.code == code::TYPE_ARROW
+    a.code == term
+        && t.code == arrow
         && a.c1 == t.c1
         && before.has_type(l.c4, f, a.c2, t.c2)
-        && before.binds_term(f, l.c1, a.c1)
+        && before.pair(binding, f, l.c1, a.c1)
         && l.c5 == 0
         && l.c6 == 0
+}
+
+fn has_fun<S: LineStore>(before: &Prefix<S>, l: Line) -> bool
+    ensures { result ≡ has_fun (at before.now) l }
+{
+    has_function(before, code::TERM_FUN, code::TYPE_ARROW, code::ENV_TERM, l)
 }
 
 fn has_appl<S: LineStore>(before: &Prefix<S>, l: Line) -> bool
@@ -65,16 +72,7 @@ fn has_appl<S: LineStore>(before: &Prefix<S>, l: Line) -> bool
 fn has_fun2<S: LineStore>(before: &Prefix<S>, l: Line) -> bool
     ensures { result ≡ has_fun2 (at before.now) l }
 {
-    let a = before.line(l.c2);
-    let t = before.line(l.c3);
-    let f = before.line(l.c4).c1;
-    a.code == code::TERM_FUN2
-        && t.code == code::TYPE_ALL
-        && a.c1 == t.c1
-        && before.has_type(l.c4, f, a.c2, t.c2)
-        && before.binds_type(f, l.c1, a.c1)
-        && l.c5 == 0
-        && l.c6 == 0
+    has_function(before, code::TERM_FUN2, code::TYPE_ALL, code::ENV_TYPE, l)
 }
 
 fn has_appl2<S: LineStore>(before: &Prefix<S>, l: Line) -> bool

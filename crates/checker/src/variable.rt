@@ -19,13 +19,14 @@ fn bound_last<S: LineStore>(before: &Prefix<S>, e: Line, l: Line) -> bool
     l.c2 == 1 && before.raises(l.c5, e.c2, 0, l.c3)
 }
 
+// Kept beside typing_past_term: the two share how they name the statement without the last binding, and no more.
 fn bound_past_type<S: LineStore>(before: &Prefix<S>, e: Line, l: Line) -> bool
     ensures { result ≡ bound_past_type (at before.now) e l }
 {
     let p = before.line(l.c4);
     p.code == code::BOUND
         && p.c1 == e.c1
-        && p.c2 as u32 + 1 == l.c2 as u32
+        && p.c2.checked_add(1) == Some(l.c2)
         && before.raises(l.c5, p.c3, 0, l.c3)
 }
 
@@ -53,7 +54,7 @@ fn typing_past_term<S: LineStore>(before: &Prefix<S>, e: Line, l: Line) -> bool
     let p = before.line(l.c4);
     p.code == code::TYPING
         && p.c1 == e.c1
-        && p.c2 as u32 + 1 == l.c2 as u32
+        && p.c2.checked_add(1) == Some(l.c2)
         && p.c3 == l.c3
         && l.c5 == 0
 }

@@ -79,6 +79,7 @@ impl fmt::Display for Cause {
 }
 
 impl Answer {
+    // Kept as a match, and so place and cause: this is the table of answers, a row each.
     pub fn number(self) -> u8
         ensures { result ≡ number self }
     {

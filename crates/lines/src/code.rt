@@ -1,4 +1,5 @@
 // The codes of lines, by name. Any other code may stand in a line, and no listing with it is sound.
+// Kept as numbers and no enum: lent memory may hold any byte as a code, and the checker goes by ranges of codes.
 
 // types
 pub const TYPE_TOP: u8 = 10;

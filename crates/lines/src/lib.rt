@@ -15,6 +15,8 @@
 //   get(n)     line n; none if n is 0 or above the count changes nothing
 //   put(line)  adds it at the end, Ok(its number); Err, exactly when the count equals the room, changes nothing
 //   cut(n)     keeps the first n lines, or all if n is larger
+//   iter()     the lines from the first to the last      changes nothing
+// Lines        what iter() answers: each line once, in order
 #![tactic(auto)]
 
 mod answer;

@@ -1,7 +1,8 @@
-// One line of a listing: a code and seven columns.
-// Lines are numbered from 1; a column that names a line holds its number, and 0 where there is none.
 ghost use Rattle.std.specs.Prelude.{◌≡◌};
 
+// One line of a listing: a code and seven columns.
+// Lines are numbered from 1; a column that names a line holds its number, and 0 where there is none.
+// Kept as eight numbers: the layout is C's, and hosts lend their records in it.
 #[repr(C)]
 #[derive(Clone, Copy, PartialEq, Eq, Hash, Debug, Default)]
 pub struct Line {

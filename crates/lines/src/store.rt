@@ -26,11 +26,6 @@ pub trait LineStore {
     // what its calls keep true from new on; nothing requires it
     ghost keeps: { Self → Type 0 };
 
-    // Two facts that every store proves: the lines are within the room, and the room within the cap.
-    ghost within: { (s : Self) → length (lines s) ≤ most s };
-
-    ghost capped: { (s : Self) → most s ≤ 65535 };
-
     fn count(&self) -> u16
         ensures { result ≡ length (lines self.now) };
 
@@ -41,6 +36,7 @@ pub trait LineStore {
     fn get(&self, n: u16) -> Option<Line>
         ensures { result ≡ numbered (lines self.now) n };
 
+    // Kept in the clauses of each call: what it leaves as it was relates two values, which no type does.
     // Adds a line at the end and gives its number; refuses exactly when the count equals the room, and then changes nothing.
     fn put(&mut self, line: Line) -> Result<u16, StoreFault>
         ensures room { most self.new ≡ most self.old }
@@ -52,6 +48,11 @@ pub trait LineStore {
         ensures room { most self.new ≡ most self.old }
         ensures lines { lines self.new ≡ take n (lines self.old) }
         ensures kept { keeps self.old → keeps self.new };
+
+    // The laws of a store: the lines are within the room, and the room within the cap.
+    ghost within: { (s : Self) → length (lines s) ≤ most s };
+
+    ghost capped: { (s : Self) → most s ≤ 65535 };
 
     // The lines from the first to the last.
     final fn iter(&self) -> Lines<'_, Self>

@@ -1,7 +1,7 @@
 -- What a line is written as reads back as the line.
-use Rattle.std.proofs.Common.{◌≡◌, ℕ, zero, suc, ◌+◌, ◌-◌, ◌*◌, ◌/◌, ◌%◌, ◌<◌, ◌≤◌, ◌^◌, min, List, ◌++◌, ◌∷◌, [], length, get_or, set, take, drop, refl, sym, ap, ap₂, ◌∙◌, add-one, arith}
+use Rattle.std.proofs.Common.{◌≡◌, ℕ, zero, suc, ◌+◌, ◌-◌, ◌*◌, ◌/◌, ◌%◌, ◌<◌, ◌≤◌, ◌^◌, min, List, ◌++◌, ◌∷◌, [], length, get_or, set, take, drop, refl, sym, ap, ◌∙◌, add-one, arith}
 use native.Mathlib.Nat.{min-eq_left, min-le_right}
-use Rattle.std.proofs.lemmas.List.{length_push, length-take, length-drop, length-set, get_or_append_left, get_or_push, get_or-take, get_or-drop, get_or-set_same, drop_more, drop_all, drop-set-lt, append_assoc}
+use Rattle.std.proofs.lemmas.List.{length_push, length-take, length-drop, get_or_append_left, get_or_push, get_or-take, get_or-drop, drop_all, drop-set, append_assoc}
 use Rattle.std.proofs.lemmas.Grind.{common_steps}
 use Rattle.std.proofs.lemmas.Bool.Decides.{nat_tests}
 use Rattle.page.specs.Form.{digit_or_space, spaced, in_columns, in_three, in_six, encoded, of_columns, of_three, of_six, decoded, InRange}
@@ -15,6 +15,12 @@ pub length-in_columns : (k n : ℕ) → length (in_columns k n) ≡ k
 unfolding in_columns
 length-in_columns zero n = refl
 length-in_columns (suc k) n = let h = length-spaced k (n / 10) in length_push (spaced k (n / 10)) _ ∙ omega arith
+
+pub length-in_three : (n : ℕ) → length (in_three n) ≡ 3
+length-in_three = length-in_columns 3
+
+pub length-in_six : (n : ℕ) → length (in_six n) ≡ 6
+length-in_six = length-in_columns 6
 
 -- the first k columns, whatever stands behind them
 of_columns-append : (k : ℕ) (s t : List ℕ) → k ≤ length s → of_columns k (s ++ t) 0 ≡ of_columns k s 0
@@ -100,23 +106,17 @@ three_read s h = omega (arith, cut_out 3 0 s h)
 pub six_read : (i : ℕ) (s : List ℕ) → i + 6 ≤ length s → min (of_columns (length (take 6 (drop i s))) (take 6 (drop i s)) 0) 65535 ≡ of_six s i
 six_read i s h = ap (λ n. min n 65535) (cut_out 6 i s h)
 
--- a write at j, from there on
-drop-set_at : (j b : ℕ) (columns : List ℕ) → j < length columns → drop j (set columns j b) ≡ b ∷ drop (suc j) columns
-drop-set_at j b columns h =
-    drop_more (set columns j b) j 0 (omega (arith, length-set columns j b))
-    ∙ ap₂ ◌∷◌ (get_or-set_same columns j b 0 h) (ap (λ m. drop m (set columns j b)) (add-one j) ∙ drop-set-lt (suc j) columns j b (omega arith))
-
 -- the last column is written
 pub last_written : (j n : ℕ) (columns : List ℕ) → length columns ≡ suc j → spaced j (n / 10) ++ drop j (set columns j (48 + n % 10)) ≡ in_columns (length columns) n
 unfolding in_columns
 last_written j n columns h =
-    ap (λ u. spaced j (n / 10) ++ u) (drop-set_at j (48 + n % 10) columns (omega arith) ∙ ap (λ u. (48 + n % 10) ∷ u) (drop_all (suc j) columns (omega arith)))
+    ap (λ u. spaced j (n / 10) ++ u) (drop-set columns j (48 + n % 10) (omega arith) ∙ ap (λ m. (48 + n % 10) ∷ drop m columns) (add-one j) ∙ ap (λ u. (48 + n % 10) ∷ u) (drop_all (suc j) columns (omega arith)))
     ∙ ap (λ k. in_columns k n) (sym h)
 
 -- column j is written, in front of those that are
 pub one_written : (j n : ℕ) (columns : List ℕ) → j < length columns → spaced j (n / 10) ++ drop j (set columns j (digit_or_space n)) ≡ spaced (suc j) n ++ drop (suc j) columns
 one_written j n columns h =
-    ap (λ u. spaced j (n / 10) ++ u) (drop-set_at j (digit_or_space n) columns h)
+    ap (λ u. spaced j (n / 10) ++ u) (drop-set columns j (digit_or_space n) h ∙ ap (λ m. digit_or_space n ∷ drop m columns) (add-one j))
     ∙ sym (append_assoc (spaced j (n / 10)) (digit_or_space n ∷ []) (drop (suc j) columns))
 
 -- column j is read, and those behind it up to the power w of ten

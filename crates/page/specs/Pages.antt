@@ -3,6 +3,7 @@ use Rattle.std.specs.Prelude.{◌≡◌, ℕ, ◌-◌, ◌*◌, ◌/◌, ◌<◌
 use Rattle.std.specs.Simd.{first_chunks}
 use Rattle.std.proofs.Common.{zero, suc, refl, ap, arith}
 use Rattle.std.proofs.Math.Nat.{min-le_right}
+use Rattle.std.specs.Borrow.{GName}
 use Rattle.lines.specs.Adopts.{Good, Lowest}
 use Rattle.lines.specs.declared.fault.OutOfForm.{OutOfForm}
 use Rattle.lines.specs.declared.line.Line.{Line}
@@ -21,6 +22,10 @@ rows k s = map decoded (first_chunks 46 k s)
 -- all of its bytes
 abbrev pub text : Page → List ℕ
 text p = p.bytes.now
+
+-- the bytes that were lent to it, by their name in proofs
+abbrev pub lender : Page → GName
+lender p = p.bytes.ghost_name
 
 -- how many lines it can hold
 abbrev pub spaces : Page → ℕ

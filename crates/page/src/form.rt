@@ -22,6 +22,7 @@ fn write(columns: &mut [u8], n: u16)
     let last = columns.len() - 1;
     columns[last] = b'0' + (n % 10) as u8;
     let mut rest = n / 10;
+    // Kept as an index loop: a proof knows nothing of bytes that a loop wrote through `iter_mut().rev()`.
     for k in (0..last).rev() {
         columns[k] = column(rest);
         rest /= 10;
@@ -36,6 +37,7 @@ pub fn encode(line: Line) -> [u8; LINE_BYTES]
 {
     let mut out = [b'\n'; LINE_BYTES];
     write(&mut out[..3], line.code.into());
+    // Kept with places counted from k: a proof knows nothing of bytes that a loop wrote through `chunks_exact_mut`.
     for (k, n) in line.columns().iter().enumerate() {
         let at = 3 + 6 * k;
         write(&mut out[at..at + 6], *n);
@@ -48,10 +50,11 @@ fn read(columns: &[u8]) -> u16
     requires { length columns.now ≤ 6 }
     ensures { result ≡ min (of_columns (length columns.now) columns.now 0) 65535 }
 {
+    // From the last column on: from the first one on it would need no power of ten, and take a quarter longer.
     let mut n = 0;
     let mut power = 1;
-    for k in (0..columns.len()).rev() {
-        n += u32::from(columns[k].saturating_sub(b'0')) * power;
+    for byte in columns.iter().rev() {
+        n += u32::from(byte.saturating_sub(b'0')) * power;
         power *= 10;
     }
     n.min(65535) as u16
@@ -61,6 +64,7 @@ fn read(columns: &[u8]) -> u16
 pub(crate) fn decode(place: &[u8; LINE_BYTES]) -> Line
     ensures { result ≡ decoded place.now }
 {
+    // Kept as eight reads: a line's columns are fields.
     Line {
         code: read(&place[..3]).min(255) as u8,
         c1: read(&place[3..9]),

@@ -10,6 +10,7 @@ use crate::form::{LINE_BYTES, decode, encode, in_form};
 use lines::{Line, LineStore, MAX_ROOM, OutOfForm, StoreFault};
 
 // Room for as many lines as there are whole places of 46 bytes, at most 65,535.
+// Kept as bytes and a count: the memory is lent, and nothing is allocated.
 // Kept as clauses: that the counted places are in form, Formed. A store's clauses `kept` say it in any case, so a field would only say it twice.
 // A clause `lender` says that the page still stands in the bytes that were lent to it: so the lender knows what they hold at last.
 #[derive(Drop)]
@@ -20,14 +21,14 @@ pub struct Page<'a> {
 }
 
 impl<'a> Page<'a> {
-    ghost use Rattle.page.specs.Pages.{place, text, standing, spaces, every, Formed, FirstOut};
+    ghost use Rattle.page.specs.Pages.{place, text, lender, standing, spaces, every, Formed, FirstOut};
 
     // A page without lines; no byte is changed.
     pub fn new(bytes: &'a mut [u8]) -> Page<'a>
         ensures lines { standing result ≡ [] }
         ensures bytes { text result ≡ bytes.old }
         ensures kept { Formed result }
-        ensures lender { result.bytes.ghost_name ≡ bytes.entry.ghost_name }
+        ensures lender { lender result ≡ bytes.entry.ghost_name }
     {
         Page { bytes, count: 0 }
     }
@@ -38,17 +39,18 @@ impl<'a> Page<'a> {
         ensures cases { Adopted (λ p. InForm (place (p - 1) (text self.old))) (every self.old) n (standing self.old) (standing self.new) result }
         ensures ok { OnOk result (Formed self.new) }
         ensures kept { Formed self.old → Formed self.new }
-        ensures lender { self.new.bytes.ghost_name ≡ self.old.bytes.ghost_name }
+        ensures lender { lender self.new ≡ lender self.old }
     {
-        self.count = self.first_out(n)?;
-        Ok(self.count)
+        let count = self.first_out(n)?;
+        self.count = count;
+        Ok(count)
     }
 
     // n, or the lowest of the places 1 to n that is out of form or beyond the room.
     fn first_out(&self, n: usize) -> Result<u16, OutOfForm>
         ensures { FirstOut self.now n result }
     {
-        let room = self.room() as usize;
+        let room = usize::from(self.room());
         let within = &self.places()[..n.min(room)];
         match within.iter().position(|place| !in_form(place)) {
             Some(k) => Err(OutOfForm {
@@ -71,8 +73,8 @@ impl<'a> Page<'a> {
 }
 
 #[tactic(auto, using(crate::specs::Pages::rows_length))]
-impl<'a> LineStore for Page<'a> {
-    ghost use Rattle.page.specs.Pages.{text, standing, spaces, Formed, Wrote, within_room, within_cap};
+impl LineStore for Page<'_> {
+    ghost use Rattle.page.specs.Pages.{text, lender, standing, spaces, Formed, Wrote, within_room, within_cap};
 
     ghost lines = { λ p. standing p };
 
@@ -104,6 +106,7 @@ impl<'a> LineStore for Page<'a> {
         ensures cases { Put (standing self.old) (standing self.new) (spaces self.old) line result }
         ensures kept { Formed self.old → Formed self.new }
         ensures bytes { Wrote (text self.old) (text self.new) (length (standing self.old)) line result }
+        ensures lender { lender self.new ≡ lender self.old }
     {
         let n = self.count;
         if n == self.room() {
@@ -121,6 +124,7 @@ impl<'a> LineStore for Page<'a> {
         ensures lines { standing self.new ≡ take n (standing self.old) }
         ensures kept { Formed self.old → Formed self.new }
         ensures bytes { text self.new ≡ text self.old }
+        ensures lender { lender self.new ≡ lender self.old }
     {
         self.count = self.count.min(n);
     }

@@ -4,6 +4,7 @@
 //   from_str(word)      the rule of this name; UnknownRule for any other word
 //   {}                  its name
 //   check(store, heap)  what check finds of the lines under the rule: Ok(their count), or the first fault
+// rule_named(word)      the same as an Option: none for any other word
 //
 // Verdict             the rule, the answer, and how many judgments and definitions are concluded
 //   is_granted()      whether the answer is 0: the page is a sound listing
@@ -28,6 +29,6 @@ mod text;
 mod verdict;
 
 pub use check_page::verify;
-pub use rule_name::{RuleName, UnknownRule};
+pub use rule_name::{RuleName, UnknownRule, rule_named};
 pub use text::report;
 pub use verdict::Verdict;

@@ -3,6 +3,7 @@
 ghost use Rattle.checker.specs.Checked.{Checked};
 ghost use Rattle.report.specs.RuleNames.{rule_text, Named};
 ghost use Rattle.std.specs.Prelude.{Some, codes};
+ghost use Rattle.std.specs.Result.{result_ok};
 
 use checker::check;
 use lines::{LineStore, Unsound};
@@ -22,6 +23,7 @@ impl RuleName {
     ghost use Rattle.report.specs.RuleNames.{rule_of};
 
     // What check finds of the lines under the rule.
+    // Kept as a match: a rule is a type whose functions take no value, so that there is nothing for dyn.
     pub fn check<S: LineStore>(self, store: &S, heap: Global) -> Result<u16, Unsound>
         ensures { Checked (rule_of self) (S.lines store.now) result }
     {
@@ -50,7 +52,7 @@ impl fmt::Display for RuleName {
 impl FromStr for RuleName {
     type Err = UnknownRule;
 
-    ghost from_str_gives = { Named };
+    ghost from_str_gives = { λ word found. Named word (result_ok found) };
 
     fn from_str(word: &str) -> Result<RuleName, UnknownRule> {
         match word {
@@ -59,6 +61,13 @@ impl FromStr for RuleName {
             _ => Err(UnknownRule),
         }
     }
+}
+
+// The rule of this name, if there is one.
+pub fn rule_named(word: &str) -> Option<RuleName>
+    ensures { Named word.now result }
+{
+    word.parse().ok()
 }
 
 impl fmt::Display for UnknownRule {

@@ -35,7 +35,7 @@ impl fmt::Display for Finding {
 
     fn fmt<W: fmt::Write>(&self, f: &mut fmt::Formatter<W>) -> fmt::Result {
         match self.0.answer {
-            Answer::Granted(0) => write!(f, "0 lines, nothing is concluded"),
+            Answer::Granted(0) => f.write_str("0 lines, nothing is concluded"),
             Answer::Granted(lines) => {
                 let Verdict {
                     judgments,
@@ -48,12 +48,11 @@ impl fmt::Display for Finding {
                 )
             }
             Answer::Unsound(line, cause) => write!(f, "unsound. Line {line}: {cause}"),
-            Answer::OutOfForm(place) if place as usize > MAX_ROOM => write!(
-                f,
-                "no listing. More than 65535 lines"
-            ),
+            Answer::OutOfForm(place) if place as usize > MAX_ROOM => {
+                f.write_str("no listing. More than 65535 lines")
+            }
             Answer::OutOfForm(place) => write!(f, "no listing. Place {place} is out of form"),
-            _ => write!(f, "no verdict"),
+            _ => f.write_str("no verdict"),
         }
     }
 }

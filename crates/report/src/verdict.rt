@@ -7,6 +7,7 @@ use crate::rule_name::RuleName;
 use lines::Answer;
 
 // The answer under a rule; how many judgments and definitions a sound listing concludes.
+// Kept as two counts that are 0 for every other answer, and no Option: that is what is concluded then, and callers read the fields.
 #[derive(Clone, Copy, PartialEq, Eq, Debug)]
 pub struct Verdict {
     pub rule: RuleName,
@@ -20,6 +21,6 @@ impl Verdict {
     pub fn is_granted(self) -> bool
         ensures { result ≡ (number self.answer == 0) }
     {
-        self.answer.number() == 0
+        matches!(self.answer, Answer::Granted(_))
     }
 }

@@ -14,7 +14,8 @@ use Rattle.rules.specs.declared.all_code.BodyBound.TheVariants.{Left, Right}
 use Rattle.rules.proofs.Codes.{OfKind, premises, of_raising, of_putting, of_bound, of_typing, of_env_judged, of_type_judged, of_sub_judged, of_has_judged, code_of, code_read, kind_said}
 use Rattle.rules.proofs.Means.{type_one, term_one, env_one, env_parts, Judging, judges_env, judges_type, judges_sub, judges_has, type_named, states_exists}
 use Rattle.rules.proofs.Says.{premise_earlier, arrow_parts, all_parts, rec_part, putted_of, bound_in, typing_in}
-use Rattle.rules.proofs.Whole.{NamesEarlier, AllNameEarlier, Rests, WholeSound, none_some, line_said, whole}
+use Rattle.rules.proofs.Whole.{NamesEarlier, AllNameEarlier, Rests, WholeSound, line_said, whole}
+use Rattle.std.proofs.lemmas.Option.{none-some}
 
 module _ (R : Rule) (G : Get) where
   abbrev EnvSaid : ℕ → Type 0
@@ -235,7 +236,7 @@ judging_code of_has_judged h = judges_has
 -- and each line 50 to 79 states one judgment
 pub accepted_states : (R : Rule) (lines : List Line) → Sound R lines → (n : ℕ) (l : Line) → numbered lines n ≡ Some l → 50 ≤ l.code → l.code ≤ 79
     → (s : Statement) × (said lines n ≡ Some s) × ((J : Judgment) × States (said lines) s J × Derivable R J)
-accepted_states R lines sound zero l e h i = absurd (none_some e)
+accepted_states R lines sound zero l e h i = absurd (none-some _ e)
 accepted_states R lines sound (suc n) l e h i =
     let (s, f, r) = sound n l e in
     let g = line_said lines (suc n) l s e f in

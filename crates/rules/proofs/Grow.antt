@@ -4,9 +4,10 @@ use Rattle.lines.specs.declared.line.Line.{Line}
 use Rattle.rules.specs.Faults.{Fine, Sound}
 use Rattle.rules.specs.Quantifiers.{Rule}
 use Rattle.rules.specs.Statements.{Statement, statement, said}
-use Rattle.rules.proofs.Whole.{◌⊑◌, none_some, numbered_front, said_line, line_said}
+use Rattle.rules.proofs.Whole.{◌⊑◌, numbered_front, said_line, line_said}
 use Rattle.std.proofs.lemmas.List.{take_all, take-take, take-append-le}
 use Rattle.std.specs.List.{slice_get}
+use Rattle.std.proofs.lemmas.Option.{none-some}
 
 pub cut_sound : (R : Rule) (lines : List Line) → Sound R lines → (m : ℕ) → Sound R (take m lines)
 cut_sound R lines sound m n l e =
@@ -15,7 +16,7 @@ cut_sound R lines sound m n l e =
 
 module _ {X : Type 0} where
   nth_below : (xs : List X) (x y : X) (n : ℕ) → slice_get xs n ≡ Some y → slice_get (xs ++ x ∷ []) n ≡ Some y
-  nth_below [] x y n e = absurd (none_some e)
+  nth_below [] x y n e = absurd (none-some _ e)
   nth_below (z ∷ xs) x y zero e = e
   nth_below (z ∷ xs) x y (suc n) e = nth_below xs x y n e
 
@@ -26,7 +27,7 @@ module _ {X : Type 0} where
   nth_added : (xs : List X) (x y : X) (n : ℕ) → slice_get (xs ++ x ∷ []) n ≡ Some y
       → ((n < length xs) × (slice_get xs n ≡ Some y)) ⊎ ((n ≡ length xs) × (x ≡ y))
   nth_added [] x y zero e = inr (refl, (cc))
-  nth_added [] x y (suc n) e = absurd (none_some e)
+  nth_added [] x y (suc n) e = absurd (none-some _ e)
   nth_added (z ∷ xs) x y zero e = inl (omega arith, e)
   nth_added (z ∷ xs) x y (suc n) e =
       ⊎_elim (λ below. inl (omega arith, below.1)) (λ last. inr (ap suc last.0, last.1)) (nth_added xs x y n e)
@@ -40,7 +41,7 @@ added_sound R lines sound l fine n k e =
     subst (λ before. Fine R before k) (sym same) (subst (λ m. Fine R lines m) last.1 fine)) (nth_added lines l k n e)
 
 pub said_added : (lines : List Line) (l : Line) → said lines ⊑ said (lines ++ l ∷ [])
-said_added lines l zero s e = absurd (none_some e)
+said_added lines l zero s e = absurd (none-some _ e)
 said_added lines l (suc n) s e =
     let (k, f, g) = said_line lines (suc n) s e in
     line_said (lines ++ l ∷ []) (suc n) k s (nth_below lines l k n f) g

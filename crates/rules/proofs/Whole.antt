@@ -12,6 +12,7 @@ use Rattle.rules.specs.Quantifiers.{Rule}
 use Rattle.rules.specs.Statements.{empty', with_term', Statement, type_line, term_line, env_line, raising, putting, bound_line, typing_line, env_judged, type_judged, sub_judged, has_judged, name_line, let_type, let_term, statement, Get, said, Column, plain, type_at, term_at, env_at, name_at, premise_at, definition_at, columns}
 use Rattle.rules.proofs.Codes.{line, line_says, Kind, types, terms, environments, premises, names, definitions, OfKind, first_code, last_code, kind_said}
 use Rattle.std.proofs.lemmas.Bool.{cases_lt, cases_order}
+use Rattle.std.proofs.lemmas.Option.{none-some}
 
 infix 40 ◌⊑◌
 -- H says what G says
@@ -19,9 +20,6 @@ abbrev pub ◌⊑◌ : Get → Get → Type 0
 G ⊑ H = (n : ℕ) (s : Statement) → G n ≡ Some s → H n ≡ Some s
 
 -- the first n lines
-
-pub none_some : {X : Type 0} {x : X} → None ≡ Some x → ⊥
-none_some e = let z : ◌≡◌ {A = ℕ} 0 1 = cc in omega arith
 
 pub numbered_within : {X : Type 0} (xs : List X) (n m : ℕ) → m ≤ n → numbered (take n xs) m ≡ numbered xs m
 numbered_within xs n zero h = refl
@@ -32,13 +30,13 @@ numbered_beyond xs n m h = numbered_past (take n xs) m (omega (arith, length-tak
 
 pub numbered_front : {X : Type 0} (xs : List X) (n m : ℕ) (x : X) → numbered (take n xs) m ≡ Some x → (m ≤ n) × (numbered xs m ≡ Some x)
 numbered_front xs n m x e =
-    ⊎_elim (λ past. absurd (none_some (sym (numbered_beyond xs n m past) ∙ e)))
+    ⊎_elim (λ past. absurd (none-some _ (sym (numbered_beyond xs n m past) ∙ e)))
     (λ h. (h, sym (numbered_within xs n m h) ∙ e)) (cases_lt n m)
 
 pub said_line : (lines : List Line) (n : ℕ) (s : Statement) → said lines n ≡ Some s
     → (l : Line) × (numbered lines n ≡ Some l) × (statement l ≡ Some s)
-said_line lines zero s e = absurd (none_some e)
-said_line [] (suc n) s e = absurd (none_some e)
+said_line lines zero s e = absurd (none-some _ e)
+said_line [] (suc n) s e = absurd (none-some _ e)
 said_line (l ∷ lines) (suc zero) s e = (l, refl, e)
 said_line (l ∷ lines) (suc (suc n)) s e = said_line lines (suc n) s e
 
@@ -211,8 +209,8 @@ module _ (R : Rule) (lines : List Line) (sound : Sound R lines) where
       (l, f, line_says l s g (x PastColumn), x)
 
   repeated : (m n : ℕ) (s : Statement) → m < n → said lines m ≡ Some s → said lines n ≡ Some s → ⊥
-  repeated zero n s h e f = none_some e
-  repeated (suc m) zero s h e f = none_some f
+  repeated zero n s h e f = none-some _ e
+  repeated (suc m) zero s h e f = none-some _ f
   repeated (suc m) (suc n) s h e f =
       let (k, u, v, w) = right m s e in
       let (l, x, y, z) = right n s f in
@@ -224,7 +222,7 @@ module _ (R : Rule) (lines : List Line) (sound : Sound R lines) where
       (λ apart. absurd (⊎_elim (λ below. repeated m n s below e f) (λ above. repeated n m s above f e) apart)) (cases_order m n)
 
   stands_earlier : (c : Kind) (m k : ℕ) → Stands (take m lines) (first_code c) (last_code c) k → Earlier (said lines) c (suc m) k
-  stands_earlier c m zero x = absurd (none_some x.1)
+  stands_earlier c m zero x = absurd (none-some _ x.1)
   stands_earlier c m (suc k) x =
       let (h, f) = numbered_front lines m (suc k) x.0 x.1 in
       let (s, g, r) = sound k x.0 f in
@@ -244,7 +242,7 @@ module _ (R : Rule) (lines : List Line) (sound : Sound R lines) where
   all_name_earlier m (c ∷ cs) x = (names_earlier m c x.0, all_name_earlier m cs x.1)
 
   pub whole : WholeSound R (said lines)
-  whole zero s e = absurd (none_some e)
+  whole zero s e = absurd (none-some _ e)
   whole (suc n) s e =
       let (l, f, g, r) = right n s e in
       record {

@@ -22,11 +22,12 @@ use Rattle.rules.proofs.Grow.{cut_sound}
 use Rattle.rules.proofs.Means.{type_on, term_on, env_on, states_on, states_one, Judging, judges_env, judges_type, judges_sub, judges_has, type_number, env_number, states_exists}
 use Rattle.rules.specs.Scopes.{unscoped_put}
 use Rattle.rules.specs.Variables.{bound_within, body_bound_same}
-use Rattle.rules.proofs.Whole.{◌⊑◌, none_some, said_line, said_take, said_within, is_env_on, is_type_on, is_sub_on, has_on, bound_is_on, typing_is_on, puts_on, whole}
+use Rattle.rules.proofs.Whole.{◌⊑◌, said_line, said_take, said_within, is_env_on, is_type_on, is_sub_on, has_on, bound_is_on, typing_is_on, puts_on, whole}
 use Rattle.rules.proofs.WriteParts.{write_type, write_putting, write_bound, write_typing, puts_name, bound_is_name, typing_is_name}
 use Rattle.rules.proofs.Writing.{Listing, gets, Written, done, then, via, put_line, type_name, term_name, env_name, premise_name, no_premise, put_type, put_term, put_env}
 use Rattle.std.proofs.lemmas.List.{length-take-le}
 use Rattle.std.proofs.lemmas.Bool.{cases_lt}
+use Rattle.std.proofs.lemmas.Option.{none-some}
 
 -- some line states J
 pub data Stated (G : Get) : Judgment → Type 0 where
@@ -359,10 +360,10 @@ write (Derivable.has_rec d) L = then (write d L) (λ M o x. write_has_rec M x)
 -- cut to its last line
 
 pub no_lines : (R : Rule) → Listing R
-no_lines R = record { lines = []; sound = λ n l e. absurd (none_some e) }
+no_lines R = record { lines = []; sound = λ n l e. absurd (none-some _ e) }
 
 numbered_length : {X : Type 0} (xs : List X) (n : ℕ) (x : X) → numbered xs n ≡ Some x → n ≤ length xs
-numbered_length xs n x e = ⊎_elim (λ past. absurd (none_some (sym (numbered_past xs n past) ∙ e))) (λ h. h) (cases_lt (length xs) n)
+numbered_length xs n x e = ⊎_elim (λ past. absurd (none-some _ (sym (numbered_past xs n past) ∙ e))) (λ h. h) (cases_lt (length xs) n)
 
 -- what a line states, it states as the last line of the lines up to it
 pub states_last : (R : Rule) (lines : List Line) → Sound R lines → (n : ℕ) (s : Statement) (J : Judgment) → said lines n ≡ Some s → Judging s

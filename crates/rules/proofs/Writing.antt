@@ -15,7 +15,8 @@ use Rattle.rules.specs.Syntax.{Ty, Tm, Env}
 use Rattle.rules.proofs.Codes.{code_read, line, says_line, line_past, Kind, premises, OfKind, of_type_line, of_term_line, of_env_line, first_code, last_code, kind_code}
 use Rattle.rules.proofs.Grow.{added_sound, said_added, said_last}
 use Rattle.rules.proofs.Means.{type_of_on, term_of_on, env_of_on}
-use Rattle.rules.proofs.Whole.{◌⊑◌, none_some, said_line, line_said}
+use Rattle.rules.proofs.Whole.{◌⊑◌, said_line, line_said}
+use Rattle.std.proofs.lemmas.Option.{none-some}
 
 pub record Listing (R : Rule) : Type 0 where
   pub lines : List Line
@@ -63,16 +64,16 @@ find : (lines : List Line) (l : Line) → Found lines l
 find [] l = inr none
   where
     none : (n : ℕ) → numbered [] n ≡ Some l → ⊥
-    none zero e = none_some e
-    none (suc n) e = none_some e
+    none zero e = none-some _ e
+    none (suc n) e = none-some _ e
 find (m ∷ lines) l = go (line_discrete m l) (find lines l)
   where
     later : ((n : ℕ) × (numbered lines n ≡ Some l)) → Found (m ∷ lines) l
-    later (zero, e) = absurd (none_some e)
+    later (zero, e) = absurd (none-some _ e)
     later (suc n, e) = inl (suc (suc n), e)
 
     none : (m ≡ l → ⊥) → ((n : ℕ) → numbered lines n ≡ Some l → ⊥) → (n : ℕ) → numbered (m ∷ lines) n ≡ Some l → ⊥
-    none h k zero e = none_some e
+    none h k zero e = none-some _ e
     none h k (suc zero) e = h (cc)
     none h k (suc (suc n)) e = k (suc n) e
 

@@ -8,7 +8,7 @@ ghost use Rattle.rules.specs.LawsLemmas.{chains_equal, instances_equal, bodies_e
 use crate::all_code::AllCode;
 use crate::quantifier::Quantifier;
 
-#[derive(Drop)]
+#[derive(Clone, Copy, PartialEq, Eq, Debug)]
 pub struct EqualBounds;
 
 impl Quantifier for EqualBounds {

@@ -8,7 +8,7 @@ ghost use Rattle.rules.specs.LawsLemmas.{chains_least, instances_least, bodies_l
 use crate::all_code::AllCode;
 use crate::quantifier::Quantifier;
 
-#[derive(Drop)]
+#[derive(Clone, Copy, PartialEq, Eq, Debug)]
 pub struct LeastBound;
 
 impl Quantifier for LeastBound {

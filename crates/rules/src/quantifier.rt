@@ -6,6 +6,7 @@ ghost use Rattle.rules.specs.Quantifiers.{Rule, bounds, bodies_under};
 
 use crate::all_code::{AllCode, BodyBound, Bounds};
 
+// Kept as two types with an implementation each: EqualBounds and LeastBound are the instances of this trait, and prove its laws.
 pub trait Quantifier {
     ghost rule: { Rule };
 
@@ -18,14 +19,14 @@ pub trait Quantifier {
         ensures { result ≡ rule.admits code };
 
     // The own code's condition on the bounds.
-    final fn bounds() -> Bounds
+    fn bounds() -> Bounds
         ensures { result ≡ bounds rule.own }
     {
         Self::code().bounds()
     }
 
     // The bound under which the own code compares the bodies.
-    final fn body_bound() -> BodyBound
+    fn body_bound() -> BodyBound
         ensures { result ≡ bodies_under rule.own }
     {
         Self::code().body_bound()

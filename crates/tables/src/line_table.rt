@@ -7,6 +7,7 @@ use crate::table::Table;
 use lines::{Line, LineStore, MAX_ROOM, OutOfForm, StoreFault};
 
 // Room for as many lines as there are records, at most 65,535.
+// Kept as clauses beside the type's own fact: a store says in the trait what its calls keep, which is here Counted.
 #[derive(Drop)]
 pub struct LineTable<'a> {
     table: Table<'a, Line>,

@@ -9,6 +9,7 @@ pub struct TableFault {
     pub places: usize,
 }
 
+// Kept as a slice and a length: the memory is lent, and nothing is allocated.
 // A clause `lender` says that the table still stands in the slots that were lent to it: so the lender knows what they hold at last.
 #[derive(Drop)]
 pub struct Table<'a, T: Copy> {

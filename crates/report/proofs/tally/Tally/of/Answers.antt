@@ -15,10 +15,10 @@ pub overflow_add-tally : goal.overflow_add-tally
 overflow_add-tally g c =
     let store = c.args.store.now in
     let s = ap (coded_between 50 79) c.in-Some.ensures.steps ∙ one_more 50 79 c.in-Some.line c.next.new.self (omega arith) (omega arith) in
-    omega (arith, s, count_by-le-length (λ l. between 50 79 l.code) (g.S.LineStore.lines store), c.loop-line.invariant.0, g.S.LineStore.within store, g.S.LineStore.capped store)
+    omega (arith, s, count_by-le-length (λ l. between 50 79 l.code) (g.S.LineStore.lines store), c.loop-line.invariant.0, g.met.S.LineStore.within store, g.met.S.LineStore.capped store)
 
 pub overflow_add-tally-in-91-to-92 : goal.overflow_add-tally-in-91-to-92
 overflow_add-tally-in-91-to-92 g c =
     let store = c.args.store.now in
     let s = ap (coded_between 91 92) c.in-Some.ensures.steps ∙ one_more 91 92 c.in-Some.line c.next.new.self (omega arith) (omega arith) in
-    omega (arith, s, count_by-le-length (λ l. between 91 92 l.code) (g.S.LineStore.lines store), c.loop-line.invariant.1, g.S.LineStore.within store, g.S.LineStore.capped store)
+    omega (arith, s, count_by-le-length (λ l. between 91 92 l.code) (g.S.LineStore.lines store), c.loop-line.invariant.1, g.met.S.LineStore.within store, g.met.S.LineStore.capped store)
