@@ -56,7 +56,8 @@ verdict EqualBounds 14     2 0 'no listing. Place 2 is out of form'             
 verdict EqualBounds 14     2 0 'no listing. Place 2 is out of form'               < <(page '30'; echo)
 verdict LeastBound  14     3 0 'no listing. Place 3 is out of form'               < <(page '10; 10; 30' | sed '3s/^ /0/')
 verdict EqualBounds 14     1 0 'no listing. Place 1 is out of form'               < <(page '11 65536')
-verdict EqualBounds 14 65536 0 'no listing. More than 65535 lines'                < <(yes "$(page '10')" | head -n 65536)
+verdict EqualBounds 14 65536 0 'no listing. More than 65535 places'               < <(yes "$(page '10')" | head -n 65536)
+verdict LeastBound  14 65536 0 'no listing. More than 65535 places'               < <(yes "$(page '10')" | head -n 65535; echo)
 verdict EqualBounds 14     9 0 'no listing. Place 9 is out of form'               < <(yes "$(page '10')" | head -n 65536 | sed '9s/0/x/')
 
 # no word, and other words than one rule

@@ -17,7 +17,7 @@ sound_text lines judgments definitions =
 abbrev pub out_text : (place : ℕ) → List ℕ
 out_text p =
     if nat_lt 65535 p
-    then codes "no listing. More than 65535 lines"
+    then codes "no listing. More than 65535 places"
     else codes "no listing. Place " ++ (decimal p ++ codes " is out of form")
 
 abbrev pub finding_text : Answer → (judgments definitions : ℕ) → List ℕ

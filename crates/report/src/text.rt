@@ -49,7 +49,7 @@ impl fmt::Display for Finding {
             }
             Answer::Unsound(line, cause) => write!(f, "unsound. Line {line}: {cause}"),
             Answer::OutOfForm(place) if place as usize > MAX_ROOM => {
-                f.write_str("no listing. More than 65535 lines")
+                f.write_str("no listing. More than 65535 places")
             }
             Answer::OutOfForm(place) => write!(f, "no listing. Place {place} is out of form"),
             _ => f.write_str("no verdict"),
