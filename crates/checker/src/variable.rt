@@ -7,12 +7,6 @@ ghost use Rattle.checker.specs.Decide.{at, bound, bound_last, bound_past_type, b
 use crate::prefix::Prefix;
 use lines::{Line, LineStore, code};
 
-fn bound_past_term<S: LineStore>(before: &Prefix<S>, e: Line, l: Line) -> bool
-    ensures { result ≡ bound_past_term (at before.now) e l }
-{
-    before.bound_is(l.c4, e.c1, l.c2, l.c3) && l.c5 == 0
-}
-
 fn bound_last<S: LineStore>(before: &Prefix<S>, e: Line, l: Line) -> bool
     ensures { result ≡ bound_last (at before.now) e l }
 {
@@ -28,6 +22,12 @@ fn bound_past_type<S: LineStore>(before: &Prefix<S>, e: Line, l: Line) -> bool
         && p.c1 == e.c1
         && p.c2.checked_add(1) == Some(l.c2)
         && before.raises(l.c5, p.c3, 0, l.c3)
+}
+
+fn bound_past_term<S: LineStore>(before: &Prefix<S>, e: Line, l: Line) -> bool
+    ensures { result ≡ bound_past_term (at before.now) e l }
+{
+    before.bound_is(l.c4, e.c1, l.c2, l.c3) && l.c5 == 0
 }
 
 pub(crate) fn bound<S: LineStore>(before: &Prefix<S>, l: Line) -> bool
