@@ -1,0 +1,12 @@
+pub mod Answers
+pub mod Cases
+pub mod Classes
+pub mod Coming
+pub mod Faults
+pub mod Items
+pub mod Lexed
+pub mod Lexicon
+pub mod Names
+pub mod Reading
+pub mod Skipping
+pub mod Words
