@@ -1,5 +1,4 @@
 pub mod Columns
-pub mod Copies
 pub mod Dispatch
 pub mod Following
 pub mod Founded

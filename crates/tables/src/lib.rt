@@ -9,6 +9,7 @@
 //   pop()      takes the last record away and gives it; none if there is none
 //   cut(n)     keeps the first n records, or all if n is larger
 //   adopt(n)   Ok: the first n slots are the records; Err, exactly when n is above places, changes nothing
+//   into_records() the part of the slots where its records stand, which are as they were
 // TableFault   a push or an adopt was refused: the table has that many `places`.
 //
 // LineTable    a line store: lines as records in a lent slice. Room: its records, at most 65,535.

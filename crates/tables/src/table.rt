@@ -96,6 +96,14 @@ impl<'a, T: Copy> Table<'a, T> {
         self.len = self.len.min(n);
     }
 
+    // Its records as the part of the slots where they stand.
+    pub fn into_records(self) -> &'a mut [T]
+        ensures { result.now ≡ held self.entry }
+    {
+        let Table { slots, len } = self;
+        &mut slots[..len]
+    }
+
     // Takes what stands in the first n slots for the records, if there are so many slots.
     pub fn adopt(&mut self, n: usize) -> Result<(), TableFault>
         ensures cases { Taken (contents self.old) n (held self.old) (held self.new) result }

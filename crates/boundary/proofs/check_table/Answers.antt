@@ -1,8 +1,9 @@
 use Rattle.std.proofs.Common.{Ok, inl, inr, ap, ◌∙◌, subst₂}
-use Rattle.boundary.proofs.Adopting.{fits, beyond, answer_is}
+use Rattle.boundary.proofs.Adopting.{answer_is}
+use Rattle.tables.proofs.Adopting.{fits, beyond}
 use Rattle.boundary.proofs.check_table.Goals as goal
 use Rattle.boundary.specs.Packed.{packed}
-use Rattle.checker.proofs.Copies.{adopted_records}
+use Rattle.tables.proofs.Adopting.{adopted_records}
 use Rattle.checker.specs.Checked.{Checked}
 use Rattle.lines.specs.declared.answer.Answer.TheVariants.{OutOfForm}
 use Rattle.report.specs.RuleNames.{rule_of}

@@ -1,5 +1,5 @@
 use Rattle.std.proofs.Common.{subst}
-use Rattle.checker.proofs.Copies.{adopted_ok, adopted_records}
+use Rattle.tables.proofs.Adopting.{adopted_ok, adopted_records}
 use Rattle.checker.proofs.copy.check_records.Goals as goal
 use Rattle.checker.specs.Checked.{Checked}
 
