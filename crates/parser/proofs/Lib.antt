@@ -1,0 +1,14 @@
+pub mod Numbers
+pub mod Looking
+pub mod Equals
+pub mod Nodes
+pub mod Told
+pub mod Taking
+pub mod TermNodes
+pub mod PhraseNodes
+pub mod Env
+pub mod Judging
+pub mod Ending
+pub mod Answering
+pub mod TermTold
+pub mod Args
