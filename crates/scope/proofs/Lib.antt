@@ -1,0 +1,13 @@
+pub mod Beyond
+pub mod First
+pub mod Growing
+pub mod Laws
+pub mod Lengths
+pub mod Mapping
+pub mod Nodes
+pub mod Phrases
+pub mod Places
+pub mod Ties
+pub mod Turns
+pub mod Under
+pub mod Withins

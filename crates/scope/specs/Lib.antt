@@ -1,0 +1,10 @@
+pub mod Definitions
+pub mod Examples
+pub mod Index
+pub mod Laws
+pub mod Mapped
+pub mod Resolved
+pub mod Scope
+pub mod Scoped
+pub mod ScopedLayout
+pub mod Within
