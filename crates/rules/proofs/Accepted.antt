@@ -70,7 +70,7 @@ module _ (R : Rule) (G : Get) where
       let (t, X, c, d, e) = x Γ g in
       subst₂ (λ u Z. Derivable R (has Γ u Z)) (term_one c a) (type_one d b) e
 
-  body_at : (b : BodyBound) {m n t : ℕ} {X Z : Ty} → BodyBoundIs b m n t → TypeAt G m X → TypeAt G n Z → TypeAt G t (body_bound b X Z)
+  pub body_at : (b : BodyBound) {m n t : ℕ} {X Z : Ty} → BodyBoundIs b m n t → TypeAt G m X → TypeAt G n Z → TypeAt G t (body_bound b X Z)
   body_at Left {X = X} e x z = subst (λ k. TypeAt G k X) (sym e) x
   body_at Right {Z = Z} e x z = subst (λ k. TypeAt G k Z) (sym e) z
 

@@ -70,31 +70,31 @@ module _ {R : Rule} (L : Listing R) where
 -- what the premises of lines 50 to 79 name
 
 module _ (lines : List Line) where
-  is_env_name : {p E : ℕ} → IsEnv (said lines) p E → Names lines (Column.premise_at p)
+  pub is_env_name : {p E : ℕ} → IsEnv (said lines) p E → Names lines (Column.premise_at p)
   is_env_name {p} x = premise_name lines p x.1 of_env_judged
 
-  is_type_name : {p E A : ℕ} → IsType (said lines) p E A → Names lines (Column.premise_at p)
+  pub is_type_name : {p E A : ℕ} → IsType (said lines) p E A → Names lines (Column.premise_at p)
   is_type_name {p} x = premise_name lines p x.2 of_type_judged
 
-  is_sub_name : {p E A B : ℕ} → IsSub (said lines) p E A B → Names lines (Column.premise_at p)
+  pub is_sub_name : {p E A B : ℕ} → IsSub (said lines) p E A B → Names lines (Column.premise_at p)
   is_sub_name {p} x = premise_name lines p x.3 of_sub_judged
 
-  has_name : {p E a A : ℕ} → Has (said lines) p E a A → Names lines (Column.premise_at p)
+  pub has_name : {p E a A : ℕ} → Has (said lines) p E a A → Names lines (Column.premise_at p)
   has_name {p} x = premise_name lines p x.4 of_has_judged
 
-  env_premises : {E p : ℕ} → Follows (said lines) (env_judged E p) → Names lines (Column.premise_at p)
+  pub env_premises : {E p : ℕ} → Follows (said lines) (env_judged E p) → Names lines (Column.premise_at p)
   env_premises (Follows.env_empty e) = no_premise lines
   env_premises (Follows.env_term e x) = is_type_name x
   env_premises (Follows.env_type e x) = is_type_name x
 
-  type_premises : {E A p q : ℕ} → Follows (said lines) (type_judged E A p q) → Names lines (Column.premise_at p) × Names lines (Column.premise_at q)
+  pub type_premises : {E A p q : ℕ} → Follows (said lines) (type_judged E A p q) → Names lines (Column.premise_at p) × Names lines (Column.premise_at q)
   type_premises (Follows.type_top e x) = (is_env_name x, no_premise lines)
   type_premises (Follows.type_var e x y) = (is_env_name x, bound_is_name lines y)
   type_premises (Follows.type_arrow e x y) = (is_type_name x, is_type_name y)
   type_premises (Follows.type_all e f x) = (is_type_name x, no_premise lines)
   type_premises (Follows.type_rec e f g x) = (is_type_name x, no_premise lines)
 
-  sub_premises : {s : SubRule} {E A B p q : ℕ} → Follows (said lines) (sub_judged s E A B p q)
+  pub sub_premises : {s : SubRule} {E A B p q : ℕ} → Follows (said lines) (sub_judged s E A B p q)
       → Names lines (Column.premise_at p) × Names lines (Column.premise_at q)
   sub_premises (Follows.sub_refl x) = (is_type_name x, no_premise lines)
   sub_premises (Follows.sub_trans x y) = (is_sub_name x, is_sub_name y)
@@ -104,7 +104,7 @@ module _ (lines : List Line) where
   sub_premises (Follows.sub_all_same c b e f g t x) = (is_sub_name x, no_premise lines)
   sub_premises (Follows.sub_all_below c b e f x g t y) = (is_sub_name x, is_sub_name y)
 
-  has_premises : {h : HasRule} {E a A p q r : ℕ} → Follows (said lines) (has_judged h E a A p q r)
+  pub has_premises : {h : HasRule} {E a A p q r : ℕ} → Follows (said lines) (has_judged h E a A p q r)
       → Names lines (Column.premise_at p) × Names lines (Column.premise_at q) × Names lines (Column.premise_at r)
   has_premises (Follows.has_subsumed x y) = (has_name x, is_sub_name y, no_premise lines)
   has_premises (Follows.has_var e x y) = (is_env_name x, typing_is_name lines y, no_premise lines)
@@ -154,7 +154,7 @@ module _ {R : Rule} (L : Listing R) where
 
 -- a rule's line, where its premises are stated
 
-typing_positive : {E : Env} {k : ℕ} {A : Ty} → Typing E k A → 1 ≤ k
+pub typing_positive : {E : Env} {k : ℕ} {A : Ty} → Typing E k A → 1 ≤ k
 typing_positive typing_here = omega arith
 typing_positive (typing_past_term t) = omega arith
 typing_positive (typing_past_type t) = typing_positive t

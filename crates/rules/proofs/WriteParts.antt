@@ -31,10 +31,10 @@ write_type (rec B) k w L =
 
 -- 40
 
-raises_name : (lines : List Line) {p A j C : ℕ} → Raises (said lines) p A j C → Names lines (Column.premise_at p)
+pub raises_name : (lines : List Line) {p A j C : ℕ} → Raises (said lines) p A j C → Names lines (Column.premise_at p)
 raises_name lines {p} x = premise_name lines p x.2 of_raising
 
-raising_premises : (lines : List Line) {A j C p q : ℕ} → Follows (said lines) (raising A j C p q)
+pub raising_premises : (lines : List Line) {A j C p q : ℕ} → Follows (said lines) (raising A j C p q)
     → Names lines (Column.premise_at p) × Names lines (Column.premise_at q)
 raising_premises lines (Follows.raise_top e) = (no_premise lines, no_premise lines)
 raising_premises lines (Follows.raise_low e h) = (no_premise lines, no_premise lines)
@@ -89,7 +89,7 @@ write_raising (rec Y) j L (TypeAt.type_at e (of_rec y)) =
 pub puts_name : (lines : List Line) {p B j A C : ℕ} → Puts (said lines) p B j A C → Names lines (Column.premise_at p)
 puts_name lines {p} x = premise_name lines p x.3 of_putting
 
-putting_premises : (lines : List Line) {B j A C p q r : ℕ} → Follows (said lines) (putting B j A C p q r)
+pub putting_premises : (lines : List Line) {B j A C p q r : ℕ} → Follows (said lines) (putting B j A C p q r)
     → Names lines (Column.premise_at p) × Names lines (Column.premise_at q) × Names lines (Column.premise_at r)
 putting_premises lines (Follows.put_top e) = (no_premise lines, no_premise lines, no_premise lines)
 putting_premises lines (Follows.put_low e h) = (no_premise lines, no_premise lines, no_premise lines)
@@ -160,7 +160,7 @@ write_putting (rec Z) j l X L (TypeAt.type_at e (of_rec z)) x =
 pub bound_is_name : (lines : List Line) {p E k B : ℕ} → BoundIs (said lines) p E k B → Names lines (Column.premise_at p)
 bound_is_name lines {p} x = premise_name lines p x.2 of_bound
 
-bound_premises : (lines : List Line) {E k B p q : ℕ} → Follows (said lines) (bound_line E k B p q)
+pub bound_premises : (lines : List Line) {E k B p q : ℕ} → Follows (said lines) (bound_line E k B p q)
     → Names lines (Column.premise_at p) × Names lines (Column.premise_at q)
 bound_premises lines (Follows.bound_last e x) = (no_premise lines, raises_name lines x)
 bound_premises lines (Follows.bound_past_type e x y) = (bound_is_name lines x, raises_name lines y)
@@ -196,7 +196,7 @@ write_bound (Bound.bound_past_term b) L (EnvAt.env_at e (of_with_term g a)) =
 pub typing_is_name : (lines : List Line) {p E k A : ℕ} → TypingIs (said lines) p E k A → Names lines (Column.premise_at p)
 typing_is_name lines {p} x = premise_name lines p x.2 of_typing
 
-typing_premises : (lines : List Line) {E k A p q : ℕ} → Follows (said lines) (typing_line E k A p q)
+pub typing_premises : (lines : List Line) {E k A p q : ℕ} → Follows (said lines) (typing_line E k A p q)
     → Names lines (Column.premise_at p) × Names lines (Column.premise_at q)
 typing_premises lines (Follows.typing_last e) = (no_premise lines, no_premise lines)
 typing_premises lines (Follows.typing_past_term e x) = (typing_is_name lines x, no_premise lines)

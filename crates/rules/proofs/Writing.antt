@@ -133,14 +133,14 @@ no_premise lines = inl refl
 
 -- the line of a type, a term or an environment whose parts stand
 
-type_names : (lines : List Line) {t : TypeLine} {A : Ty} → TypeOf (said lines) t A → AllName lines (columns (type_line t))
+pub type_names : (lines : List Line) {t : TypeLine} {A : Ty} → TypeOf (said lines) t A → AllName lines (columns (type_line t))
 type_names lines of_top = tt
 type_names lines of_var = (tt, tt)
 type_names lines (of_arrow x y) = (type_name lines x, (type_name lines y, tt))
 type_names lines (of_all x y) = (type_name lines x, (type_name lines y, tt))
 type_names lines (of_rec x) = (type_name lines x, tt)
 
-term_names : (lines : List Line) {t : TermLine} {a : Tm} → TermOf (said lines) t a → AllName lines (columns (term_line t))
+pub term_names : (lines : List Line) {t : TermLine} {a : Tm} → TermOf (said lines) t a → AllName lines (columns (term_line t))
 term_names lines of_top_term = tt
 term_names lines of_var_term = (tt, tt)
 term_names lines (of_fun x y) = (type_name lines x, (term_name lines y, tt))
@@ -151,7 +151,7 @@ term_names lines (of_fold x y) = (type_name lines x, (term_name lines y, tt))
 term_names lines (of_unfold x) = (term_name lines x, tt)
 term_names lines (of_rec_term x y) = (type_name lines x, (term_name lines y, tt))
 
-env_names : (lines : List Line) {t : EnvLine} {E : Env} → EnvOf (said lines) t E → AllName lines (columns (env_line t))
+pub env_names : (lines : List Line) {t : EnvLine} {E : Env} → EnvOf (said lines) t E → AllName lines (columns (env_line t))
 env_names lines of_empty = tt
 env_names lines (of_with_term x y) = (env_name lines x, (type_name lines y, tt))
 env_names lines (of_with_type x y) = (env_name lines x, (type_name lines y, tt))

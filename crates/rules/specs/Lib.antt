@@ -4,6 +4,7 @@ pub mod Derivations
 pub mod Tries
 pub mod Laws
 pub mod Statements
+pub mod Codes
 pub mod Names
 pub mod Meaning
 pub mod Follows
