@@ -24,6 +24,7 @@ mod readspeed;
 mod rules;
 mod source_corpus;
 mod sources;
+mod stack;
 #[cfg(test)]
 mod syntax_table;
 mod tree;
@@ -51,6 +52,7 @@ sources N SEED              reads N sources with the plain reader and counts the
 corpus                      tries the readers on the sources of tests/sources.txt
 source PLACES FILE [PAGE]   prints what each reader says of the source, with the page's lines as listing
 readspeed                   times a byte in both readers
+stack                       finds how much stack the proved reader needs
 RULE is EqualBounds or LeastBound.";
 
 enum Failure {
@@ -117,6 +119,8 @@ fn run(words: &[&str]) -> Result<ExitCode, Failure> {
         ["corpus"] => return Ok(verdict(source_corpus::check())),
         ["source", places, file, ref page @ ..] => source(number(places)?, file, page)?,
         ["readspeed"] => readspeed::readspeed(),
+        ["stack"] => stack::stack()?,
+        ["stack", bytes] => return Ok(verdict(stack::try_with(number(bytes)?)?)),
         ["example"] => io::stdout().write_all(&page(&example::benefit_formula()))?,
         _ => return Err(Failure::Usage),
     }
