@@ -18,7 +18,7 @@ answer_of (got (i ∷ ts) n p) = None
 answer_of (stop e) = Some (Err e)
 answer_of spent = None
 
-abbrev answer : Limits → List Item → Option (Result NamedPhrase SyntaxFault)
+abbrev pub answer : Limits → List Item → Option (Result NamedPhrase SyntaxFault)
 answer l ts = answer_of (read (3 * length ts + 3) l phrase 0 0 0 (part Mode.on phrase ∷ []) (λ p. p) ts)
 
 answers : map (λ (c : Case). answer c.limits c.items) cases ≡ map (λ (c : Case). Some c.answer) cases

@@ -1,7 +1,7 @@
 -- The laws hold.
 use Rattle.std.proofs.Common.{ℕ, suc, ◌≤◌, List, [], ◌∷◌, subst, arith}
 use Rattle.grammar.specs.Derives.{Event, began, ended}
-use Rattle.grammar.specs.Laws.{RowsAsWritten, OnePhrase, OneAnswer, MetInPhrase, TreeFits, CasesRight}
+use Rattle.grammar.specs.Laws.{RowsAsWritten, OnePhrase, OneAnswer, MetInPhrase, PlacesTaken, TreeFits, CasesRight}
 use Rattle.grammar.specs.Reading.{Limits, count, Within}
 use Rattle.grammar.proofs.Answer.{answer}
 use Rattle.grammar.proofs.Cases.{right}
@@ -24,6 +24,9 @@ count_fits : (l : Limits) (c : ℕ) (es : List Event) → c ≤ l.places → Wit
 count_fits l c [] le w = le
 count_fits l c (began d q ∷ es) le w = count_fits l c es le w.1
 count_fits l c (ended q ∷ es) le w = let h = w.0 in count_fits l (suc c) es (omega (arith, h)) w.1
+
+pub each_place_taken : PlacesTaken
+each_place_taken items es p s = places_taken s
 
 pub tree_fits : TreeFits
 tree_fits l items p a =

@@ -8,7 +8,7 @@ mod Read
 pub mod OneAnswer
 mod Rows
 mod Total
-mod Cases
+pub mod Cases
 mod Places
 mod ToWritten
 mod FromWritten

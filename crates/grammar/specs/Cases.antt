@@ -332,6 +332,15 @@ abbrev applied_term : (k : ℕ) → (byte : ℕ) → NamedTerm → NamedTerm
 applied_term zero byte f = f
 applied_term (suc k) byte f = applied_term k (byte + 3) (appl byte f (term_name (byte + 1) x))
 
+-- k times the items that a function gives from a byte on, each time so many bytes further on
+abbrev row : (k : ℕ) → (ℕ → List Item) → (width byte : ℕ) → List Item
+row zero items width byte = []
+row (suc k) items width byte = items byte ++ row k items width (byte + width)
+
+-- 127 times `{`, from that byte on, and then these
+abbrev inside : (byte : ℕ) → List Item → List Item
+inside byte items = many 127 OpenBrace byte ++ items
+
 abbrev pub deep_cases : List Case
 deep_cases =
     case 1 (in_braces 127) (Ok (of_term (term_name 127 x)))
@@ -352,5 +361,30 @@ deep_cases =
     ∷ case 256 (n 0 x ∷ applied 128 1) (Err (TreeFull 0))
     ∷ []
 
+-- each part that is inside another, where it begins inside 128
+abbrev pub inner_cases : List Case
+inner_cases =
+    -- `:`, 127 times `{`, and then `{A`, `All(X<:A`, `All(X)A`, `Rec(X)A`
+    case 400 (t 0 Colon ∷ inside 1 (t 128 OpenBrace ∷ n 129 A ∷ [])) (Err (TooDeep 129))
+    ∷ case 400 (t 0 Colon ∷ inside 1 (t 128 All ∷ t 131 Open ∷ n 132 X ∷ t 133 Below ∷ n 135 A ∷ [])) (Err (TooDeep 135))
+    ∷ case 400 (t 0 Colon ∷ inside 1 (t 128 All ∷ t 131 Open ∷ n 132 X ∷ t 133 Close ∷ n 134 A ∷ [])) (Err (TooDeep 134))
+    ∷ case 400 (t 0 Colon ∷ inside 1 (t 128 Rec ∷ t 131 Open ∷ n 132 X ∷ t 133 Close ∷ n 134 A ∷ [])) (Err (TooDeep 134))
+    -- `:`, and 128 times `All(X<:A)`
+    ∷ case 400 (t 0 Colon ∷ row 128 (λ byte. t byte All ∷ t (byte + 3) Open ∷ n (byte + 4) X ∷ t (byte + 5) Below ∷ n (byte + 7) A ∷ t (byte + 8) Close ∷ []) 9 1) (Err (TooDeep 1151))
+    -- 127 times `{`, and then `fun(x:A`, `fun(X<:A`, `fun(X)x`, `rec(x:A`, `fold(:A`, `unfold(x`, `x(:A`
+    ∷ case 400 (inside 0 (t 127 Fun ∷ t 130 Open ∷ n 131 x ∷ t 132 Colon ∷ n 133 A ∷ [])) (Err (TooDeep 133))
+    ∷ case 400 (inside 0 (t 127 Fun ∷ t 130 Open ∷ n 131 X ∷ t 132 Below ∷ n 134 A ∷ [])) (Err (TooDeep 134))
+    ∷ case 400 (inside 0 (t 127 Fun ∷ t 130 Open ∷ n 131 X ∷ t 132 Close ∷ n 133 x ∷ [])) (Err (TooDeep 133))
+    ∷ case 400 (inside 0 (t 127 RecTerm ∷ t 130 Open ∷ n 131 x ∷ t 132 Colon ∷ n 133 A ∷ [])) (Err (TooDeep 133))
+    ∷ case 400 (inside 0 (t 127 Fold ∷ t 131 Open ∷ t 132 Colon ∷ n 133 A ∷ [])) (Err (TooDeep 133))
+    ∷ case 400 (inside 0 (t 127 Unfold ∷ t 133 Open ∷ n 134 x ∷ [])) (Err (TooDeep 134))
+    ∷ case 400 (inside 0 (n 127 x ∷ t 128 Open ∷ t 129 Colon ∷ n 130 A ∷ [])) (Err (TooDeep 130))
+    -- 128 times `fun(x:A)`, `fun(X<:A)`, `rec(x:A)`, `fold(:A)(`
+    ∷ case 400 (row 128 (λ byte. t byte Fun ∷ t (byte + 3) Open ∷ n (byte + 4) x ∷ t (byte + 5) Colon ∷ n (byte + 6) A ∷ t (byte + 7) Close ∷ []) 8 0) (Err (TooDeep 1022))
+    ∷ case 400 (row 128 (λ byte. t byte Fun ∷ t (byte + 3) Open ∷ n (byte + 4) X ∷ t (byte + 5) Below ∷ n (byte + 7) A ∷ t (byte + 8) Close ∷ []) 9 0) (Err (TooDeep 1150))
+    ∷ case 400 (row 128 (λ byte. t byte RecTerm ∷ t (byte + 3) Open ∷ n (byte + 4) x ∷ t (byte + 5) Colon ∷ n (byte + 6) A ∷ t (byte + 7) Close ∷ []) 8 0) (Err (TooDeep 1022))
+    ∷ case 400 (row 128 (λ byte. t byte Fold ∷ t (byte + 4) Open ∷ t (byte + 5) Colon ∷ n (byte + 6) A ∷ t (byte + 7) Close ∷ t (byte + 8) Open ∷ []) 9 0) (Err (TooDeep 1149))
+    ∷ []
+
 abbrev pub cases : List Case
-cases = short_cases ++ deep_cases
+cases = short_cases ++ deep_cases ++ inner_cases

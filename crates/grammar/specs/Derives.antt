@@ -55,7 +55,7 @@ pub data Derives : (K : Kind) (d q : ℕ) (ss : List Sym) → Action ss (Val K) 
       {v : Val K} (ρ : Row M) → choose M ts ≡ Some ρ → Derives M (under m d) (from m q ts) ρ.symbols ρ.action ts es s u
       → Derives K d q ss (f u) s hs r v → Derives K d q (part m M ∷ ss) f ts (es ++ hs) r v
 
--- the items are the phrase p
+-- the items are read as the phrase p by the rows, and these events are met
 abbrev pub Spells : List Item → List Event → NamedPhrase → Type 0
 Spells items es p = Derives phrase 0 0 (part on phrase ∷ []) (λ p. p) items es [] p
 

@@ -5,7 +5,7 @@ use Rattle.syntax.specs.Layout.{nodes}
 use Rattle.syntax.specs.Named.{NamedPhrase}
 use Rattle.grammar.specs.Cases.{cases, Right}
 use Rattle.grammar.specs.Derives.{Event, Spells}
-use Rattle.grammar.specs.Reading.{Limits, Met, Ended, Answered}
+use Rattle.grammar.specs.Reading.{Limits, count, Met, Ended, Answered}
 use Rattle.grammar.specs.Written.{WrittenPhrase}
 use Rattle.grammar.specs.declared.fault.SyntaxFault.{SyntaxFault}
 
@@ -23,11 +23,15 @@ OneAnswer =
     (l : Limits) (items : List Item) → Ended items
     → (a : Result NamedPhrase SyntaxFault) × Answered l items a × ((b : Result NamedPhrase SyntaxFault) → Answered l items b → b ≡ a)
 
--- what is met in reading the items is what is met first in a phrase that begins as they do
+-- what is met in reading the items is met first in some phrase that begins with the first of them, or with none of them
 abbrev pub MetInPhrase : Type 0
 MetInPhrase =
     (items : List Item) (es : List Event) → Met items es
     → (used left others : List Item) × (later : List Event) × (p : NamedPhrase) × (items ≡ used ++ left) × Spells (used ++ others) (es ++ later) p
+
+-- in reading a phrase each of its nodes takes one place
+abbrev pub PlacesTaken : Type 0
+PlacesTaken = (items : List Item) (es : List Event) (p : NamedPhrase) → Spells items es p → count 0 es ≡ length (nodes p)
 
 -- the tree of a phrase that is read has a place for each of its nodes
 abbrev pub TreeFits : Type 0

@@ -56,6 +56,8 @@ NoneBeyond l items = (es : List Event) → Met items es → Within l 0 es
 abbrev pub FirstBeyond : Limits → List Item → Event → Type 0
 FirstBeyond l items e = (es : List Event) × Met items (es ++ e ∷ []) × Within l 0 es × (Fits l (count 0 es) e → ⊥)
 
+-- The answer to the items: they are a phrase within the limits, and this is it; or an item is the first wrong one, and no limit is passed before;
+-- or a limit is, and the first event beyond it has this first byte.
 abbrev pub Answered : Limits → List Item → Result NamedPhrase SyntaxFault → Type 0
 Answered l items (Ok p) = WrittenPhrase items p × NoneBeyond l items
 Answered l items (Err (Lexical f)) = FirstWrong items (Err f) × NoneBeyond l items

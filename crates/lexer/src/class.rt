@@ -20,7 +20,7 @@ impl Class {
         ensures { result ≡ class_of b }
     {
         match b {
-            b'\t' | b'\n' | 12 | b'\r' | b' ' => Class::Blank,
+            b'\t' | b'\n' | b'\x0C' | b'\r' | b' ' => Class::Blank,
             b'A'..=b'Z' | b'`' | b'a'..=b'z' => Class::Letter,
             b'0'..=b'9' => Class::Digit,
             b'#' | b'$' | b'%' | b'&' | b'*' | b'+' | b'-' | b'/' | b':' => Class::Special,

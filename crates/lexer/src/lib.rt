@@ -11,6 +11,7 @@
 //
 // Name         the 14 bytes of a name. Two names are == exactly if they have the same bytes.
 //   new(spelling)  the name with this spelling; none if it has more than 14 bytes
+//   bytes()    its 14 bytes, 0 after its end
 //   columns()  its bytes as the seven columns of a line, two a number
 //   from_columns(columns)  the name whose bytes these are
 //

@@ -6,15 +6,15 @@ use Rattle.lexer.specs.declared.tokens.Tokens.{Tokens}
 use Rattle.lexer.proofs.LexiconItems.{ordinary-from, ordinary-cons}
 use Rattle.grammar.specs.Reading.{Ended}
 use Rattle.grammar.proofs.Coming.{ordinary_ended}
-use Rattle.grammar.proofs.Laws.{rows_as_written, one_phrase, one_answer, met_in_phrase, tree_fits, cases_right}
-use Rattle.scope.proofs.Laws.{closed_alike, among_those, record_kept}
+use Rattle.grammar.proofs.Laws.{rows_as_written, one_phrase, one_answer, met_in_phrase, each_place_taken, tree_fits, cases_right}
+use Rattle.scope.proofs.Laws.{closed_alike, among_those, record_kept, examples_answered}
 use Rattle.reader.specs.Reads.{OfGrammar, OfNames}
 
 pub of_grammar : OfGrammar
-of_grammar = (rows_as_written, one_phrase, one_answer, met_in_phrase, tree_fits, cases_right)
+of_grammar = (rows_as_written, one_phrase, one_answer, met_in_phrase, each_place_taken, tree_fits, cases_right)
 
 pub of_names : OfNames
-of_names = (closed_alike ℕ, among_those ℕ, record_kept ℕ)
+of_names = (closed_alike ℕ, among_those ℕ, record_kept ℕ, examples_answered)
 
 ordinary_behind : (x : Item) (more : List Item) (b : Bool) → is_last x ≡ b → ordinary more ≡ true → ordinary (x ∷ elim b [ true ↦ [] | false ↦ more ]) ≡ true
 ordinary_behind x more true e o = e

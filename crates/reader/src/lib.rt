@@ -17,6 +17,8 @@ mod fault;
 mod source;
 
 pub use fault::ReadFault;
-pub use lexer::{SourceTooLong, Tokens};
+pub use grammar::SyntaxFault;
+pub use lexer::{LexicalFault, SourceTooLong, Tokens};
+pub use scope::Unbound;
 pub use source::read;
 pub use syntax::{Node, Phrase};

@@ -16,7 +16,7 @@ use Rattle.reader_rows.specs.Rows.{packed, rows_of, Shown, ReadInto, is_read, no
 use Rattle.reader_rows.specs.declared.row.Row.{Row}
 
 module _ (source : List ℕ) (records standing : List Line) (old new : List Row) (its : List Item) (places : List Node) (n : ℕ) (same : standing ≡ records)
-  (tokens : its ≡ items source) (made : places ≡ replicate n Top) (left : n ≡ length old - 1) where
+    (tokens : its ≡ items source) (made : places ≡ replicate n Top) (left : n ≡ length old - 1) where
   many : length places ≡ length old - 1
   many = ap length made ∙ length-replicate n Top ∙ left
 

@@ -1,9 +1,11 @@
 -- The laws of looking names up, proved.
+use Rattle.std.proofs.Common.{refl}
 use Rattle.scope.proofs.Beyond.{closed-same}
 use Rattle.scope.proofs.Growing.{within-definitions, definitions-append, lets-listing}
 use Rattle.scope.proofs.Mapping.{scope-map}
 use Rattle.scope.proofs.Phrases.{tie-phrase}
 use Rattle.scope.proofs.Places.{record-same}
+use Rattle.scope.specs.Examples.{ExamplesAnswered}
 use Rattle.scope.specs.Laws.{Natural, ClosedAlike, AmongThose, RecordKept, NodesReplaced, Appended, LetsCounted}
 use Rattle.scope.specs.Scope.{of_definitions}
 
@@ -27,3 +29,6 @@ appended xs ys h = definitions-append xs ys h
 
 pub lets_counted : LetsCounted
 lets_counted lines = lets-listing lines
+
+pub examples_answered : ExamplesAnswered
+examples_answered = refl

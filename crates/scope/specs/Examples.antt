@@ -1,5 +1,5 @@
 -- What the names of some sources mean, as docs/SYNTAX.md says it.
-use Rattle.std.specs.Prelude.{◌≡◌, ℕ, List, [], ◌∷◌, ◌++◌, take, map, replicate, Ok, Err, Result, codes, refl}
+use Rattle.std.specs.Prelude.{◌≡◌, ℕ, List, [], ◌∷◌, ◌++◌, take, map, replicate, Ok, Err, Result, codes}
 use Rattle.lexer.specs.declared.name.Name.{Name}
 use Rattle.lines.specs.declared.line.Line.{Line}
 use Rattle.scope.specs.Definitions.{Definition, let_type, let_term, let_unnamed, definitions}
@@ -48,15 +48,15 @@ listing =
 abbrev lets : List (Definition ℕ)
 lets = let_term a ∷ let_term b ∷ let_term a ∷ []
 
-record Example : Type 0 where
-  after : List (Definition ℕ)
-  phrase : NamedPhrase
-  answer : Result (ScopedPhrase ℕ) ℕ
+pub record Example : Type 0 where
+  pub after : List (Definition ℕ)
+  pub phrase : NamedPhrase
+  pub answer : Result (ScopedPhrase ℕ) ℕ
 
 abbrev example : List (Definition ℕ) → NamedPhrase → Result (ScopedPhrase ℕ) ℕ → Example
 example ds p r = record { after = ds; phrase = p; answer = r }
 
-abbrev examples : List Example
+abbrev pub examples : List Example
 examples =
     -- :T;
     example (definitions listing) (of_type (name 1 T)) (Ok (scoped.of_type (scoped.defined 3)))
@@ -100,5 +100,5 @@ examples =
     (Ok (scoped.of_term (scoped.appl2 1 (scoped.term_var 0 2) (scoped.defined 7))))
     ∷ []
 
-examples_answered : map (λ e. scope e.after e.phrase) examples ≡ map (λ e. e.answer) examples
-examples_answered = refl
+abbrev pub ExamplesAnswered : Type 0
+ExamplesAnswered = map (λ (e : Example). scope e.after e.phrase) examples ≡ map (λ (e : Example). e.answer) examples
