@@ -17,7 +17,7 @@ use Rattle.judge.proofs.Valid.{Grown, grown_kept, Grows, grows_on, defines_nothi
 use Rattle.std.proofs.lemmas.Bool.{cases_lt}
 use Rattle.std.proofs.lemmas.Option.{none-some}
 
-numbered_length : (xs : List Line) (n : ℕ) (l : Line) → numbered xs n ≡ Some l → n ≤ length xs
+pub numbered_length : (xs : List Line) (n : ℕ) (l : Line) → numbered xs n ≡ Some l → n ≤ length xs
 numbered_length xs n l e = ⊎_elim (λ past. absurd (none-some _ (sym (numbered_past xs n past) ∙ e))) (λ h. h) (cases_lt (length xs) n)
 
 nth_within : (xs more : List Line) (n : ℕ) (l : Line) → n < length xs → slice_get (xs ++ more) n ≡ Some l → slice_get xs n ≡ Some l
@@ -25,20 +25,20 @@ nth_within [] more n l h e = absurd (let z : ⊥ = omega (arith, h) in z)
 nth_within (x ∷ xs) more zero l h e = e
 nth_within (x ∷ xs) more (suc n) l h e = nth_within xs more n l (omega (arith, h)) e
 
-said_within : (xs more ys : List Line) → ys ≡ xs ++ more → (n : ℕ) (s : Statement) → n ≤ length xs → said ys n ≡ Some s → said xs n ≡ Some s
+pub said_within : (xs more ys : List Line) → ys ≡ xs ++ more → (n : ℕ) (s : Statement) → n ≤ length xs → said ys n ≡ Some s → said xs n ≡ Some s
 said_within xs more ys g zero s h e = absurd (none-some _ e)
 said_within xs more ys g (suc n) s h e =
     let (l, f, k) = said_line ys (suc n) s e in
     line_said xs (suc n) l s (nth_within xs more n l (omega (arith, h)) (sym (ap (λ zs. slice_get zs n) g) ∙ f)) k
 
 -- a line that states a judgment defines nothing
-stated_defines_nothing : {G : Get} {n : ℕ} {J : Judgment} → Stated_by G n J → (E : ℕ) → Defines G n E → ⊥
+pub stated_defines_nothing : {G : Get} {n : ℕ} {J : Judgment} → Stated_by G n J → (E : ℕ) → Defines G n E → ⊥
 stated_defines_nothing (s, e, states_env g) = defines_nothing tt e
 stated_defines_nothing (s, e, states_type g a) = defines_nothing tt e
 stated_defines_nothing (s, e, states_sub g a b) = defines_nothing tt e
 stated_defines_nothing (s, e, states_has g a b) = defines_nothing tt e
 
-session_kept : (xs ys : List Line) {Γ : Env} → Grows xs ys → SessionEnv (said xs) Γ → SessionEnv (said ys) Γ
+pub session_kept : (xs ys : List Line) {Γ : Env} → Grows xs ys → SessionEnv (said xs) Γ → SessionEnv (said ys) Γ
 session_kept xs ys g (SessionEnv.nothing_defined h) = SessionEnv.nothing_defined (λ d E x. h d E (g.kept d E x))
 session_kept xs ys g (SessionEnv.latest_defined x h e) =
     SessionEnv.latest_defined (defines_on (grows_on g) x) (λ m F l y. h m F l (g.kept m F y)) (env_on (grows_on g) e)

@@ -46,9 +46,14 @@ is_true : (b : Bool) → T b → b ≡ true
 is_true true t = refl
 is_true false t = absurd t
 
-pub name_follows : (G : Get) (name : List ℕ) → Spelled name → Follows G (name_statement name)
+-- the bytes of the name that its line holds are its own
+pub name_bytes : (name : List ℕ) → Spelled name
+    → name ≡ bytes_of (two_bytes name 0 ∷ two_bytes name 2 ∷ two_bytes name 4 ∷ two_bytes name 6 ∷ two_bytes name 8 ∷ two_bytes name 10 ∷ two_bytes name 12 ∷ [])
 unfolding listed
-name_follows G name (e, t) = a_name (subst (λ bs. T (is_name bs)) same t)
+name_bytes name (e, t) =
+    list-listed name 14 e
+    ∙ (λ i. first 0 i ∷ second 0 i ∷ first 2 i ∷ second 2 i ∷ first 4 i ∷ second 4 i ∷ first 6 i ∷ second 6 i ∷ first 8 i ∷ second 8 i
+    ∷ first 10 i ∷ second 10 i ∷ first 12 i ∷ second 12 i ∷ [])
   where
     spelled : padded false name ≡ true
     spelled =
@@ -65,8 +70,5 @@ name_follows G name (e, t) = a_name (subst (λ bs. T (is_name bs)) same t)
     second : (i : ℕ) → get_or name (i + 1) 0 ≡ two_bytes name i % 256
     second i = sym (mod-mul-add (get_or name i 0) 256 (get_or name (i + 1) 0) (below (i + 1)))
 
-    same : name ≡ bytes_of (two_bytes name 0 ∷ two_bytes name 2 ∷ two_bytes name 4 ∷ two_bytes name 6 ∷ two_bytes name 8 ∷ two_bytes name 10 ∷ two_bytes name 12 ∷ [])
-    same =
-        list-listed name 14 e
-        ∙ (λ i. first 0 i ∷ second 0 i ∷ first 2 i ∷ second 2 i ∷ first 4 i ∷ second 4 i ∷ first 6 i ∷ second 6 i ∷ first 8 i ∷ second 8 i
-        ∷ first 10 i ∷ second 10 i ∷ first 12 i ∷ second 12 i ∷ [])
+pub name_follows : (G : Get) (name : List ℕ) → Spelled name → Follows G (name_statement name)
+name_follows G name x = a_name (subst (λ bs. T (is_name bs)) (name_bytes name x) x.1)

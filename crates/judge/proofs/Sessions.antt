@@ -131,7 +131,7 @@ leaves_one : {u : Statement} {E F : ℕ} → Leaves u E → Leaves u F → E ≡
 leaves_one leaves_type leaves_type = refl
 leaves_one leaves_term leaves_term = refl
 
-defines_one : {G : Get} {d E F : ℕ} → Defines G d E → Defines G d F → E ≡ F
+pub defines_one : {G : Get} {d E F : ℕ} → Defines G d E → Defines G d F → E ≡ F
 defines_one {F = F} x y =
     let (u, e, v) = defines_leaves x in
     let (w, f, z) = defines_leaves y in

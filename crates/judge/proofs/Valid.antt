@@ -74,7 +74,7 @@ nth_on [] more n l e = absurd (none-some _ e)
 nth_on (x ∷ xs) more zero l e = e
 nth_on (x ∷ xs) more (suc n) l e = nth_on xs more n l e
 
-starts_on : (xs ys more : List Line) → ys ≡ xs ++ more → said xs ⊑ said ys
+pub starts_on : (xs ys more : List Line) → ys ≡ xs ++ more → said xs ⊑ said ys
 starts_on xs ys more g zero s e = absurd (none-some _ e)
 starts_on xs ys more g (suc n) s e =
     let (l, f, h) = said_line xs (suc n) s e in
@@ -109,7 +109,7 @@ said_or_last xs l (suc d) s e =
     let (m, f, g) = said_line (xs ++ l ∷ []) (suc d) s e in
     ⊎_elim (λ h. inl (line_said xs (suc d) m s h g)) (λ last. inr (ap suc last)) (nth_or_last xs l m d f)
 
-defined_or_last : (xs : List Line) (l : Line) (d E : ℕ) → Defines (said (xs ++ l ∷ [])) d E → Defines (said xs) d E ⊎ (d ≡ suc (length xs))
+pub defined_or_last : (xs : List Line) (l : Line) (d E : ℕ) → Defines (said (xs ++ l ∷ [])) d E → Defines (said xs) d E ⊎ (d ≡ suc (length xs))
 defined_or_last xs l d E (type_defined f) = ⊎_elim (λ g. inl (type_defined g)) inr (said_or_last xs l d _ f)
 defined_or_last xs l d E (term_defined f) = ⊎_elim (λ g. inl (term_defined g)) inr (said_or_last xs l d _ f)
 

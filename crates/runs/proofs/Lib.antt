@@ -1,0 +1,17 @@
+pub mod Trees
+pub mod Spelling
+pub mod Definitions
+pub mod Named
+pub mod Session
+pub mod Read
+pub mod Granted
+pub mod Phrases
+pub mod Larger
+pub mod Once
+pub mod Runs
+pub mod Law
+pub mod Antisymmetric
+pub mod Forced
+pub mod Examples
+pub mod Searching
+pub mod Cases
