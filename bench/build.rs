@@ -10,7 +10,7 @@ fn main() {
     if env::var_os("CARGO_FEATURE_BOUNDARY").is_none() {
         return;
     }
-    link(&library(), "run bench/run.sh, or build with --no-default-features for the plain checker alone");
+    link(&library(), "run bench/run.sh, or build with --no-default-features for the plain parts alone");
     if let Some(kit) = env::var_os("RATTLE_C_LIB") {
         link(&PathBuf::from(kit), "RATTLE_C_LIB is to name c/liblibc_c.a of the Rattle kit");
     }

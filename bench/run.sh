@@ -1,5 +1,5 @@
 #!/usr/bin/env bash
-# Builds the proved checker's static library and the program beside it, and runs a command of the program: bench/run.sh compare 1000 1
+# Builds the static library of the proved checker and reader and the program beside it, and runs a command of the program: bench/run.sh compare 1000 1
 # With PLAIN=1, and for the command sources, the proved parts are left out: only the plain ones are built and run.
 set -euo pipefail
 cd "$(dirname "$0")/.."

@@ -1,4 +1,4 @@
-//! The proved checker, called through the static library of the crate `boundary_c`.
+//! The proved checker and reader, called through the static library of the crate `boundary_c`.
 
 use crate::lexer::Name;
 use crate::listing::{Answer, Line, Rule};

@@ -29,6 +29,11 @@ fn sources() -> Vec<Vec<u8>> {
             format!("{}top{};", "unfold(".repeat(n), ")".repeat(n)),
             format!("{}top{};", "top(".repeat(n), ")".repeat(n)),
             format!("top(:{}Top{});", "All(X<:".repeat(n - 1), ")Top".repeat(n - 1)),
+            // Names that no binder around has: each is looked up in all of them.
+            format!(":{}Y;", "All(X)".repeat(n)),
+            format!("{}y;", "fun(x:Top)".repeat(n)),
+            format!("{}y;", "rec(x:Top)".repeat(n)),
+            format!("{}x(:Y);", "fun(X)".repeat(n - 1)),
             format!("{}{}top;", "(*".repeat(n), "*)".repeat(n)),
         ];
         // A comment as deep as may be at the deepest place.
