@@ -53,7 +53,9 @@ fn put_var(b: u16, j: u32, a: u16, k: u16, told: Told) -> Action
     }
     match told {
         Told::Nothing => Action::Pay,
-        Told::One(_) => Action::Lay(Statement::TypeVar { k: k - 1 }),
+        Told::One(_) => Action::Lay(Statement::TypeVar {
+            k: u64::from(k - 1),
+        }),
         Told::Two(_, c) => Action::Close(Statement::Putting {
             b,
             j,

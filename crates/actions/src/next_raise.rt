@@ -36,7 +36,7 @@ fn raise_var(a: u16, j: u32, k: u16, told: Told) -> Action
     match told {
         Told::Nothing => Action::Pay,
         Told::One(_) => Action::Lay(Statement::TypeVar {
-            k: u32::from(k) + 1,
+            k: u64::from(k) + 1,
         }),
         Told::Two(_, c) => Action::Close(Statement::Raising {
             a,

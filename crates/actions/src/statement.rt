@@ -37,7 +37,7 @@ pub enum HasRule {
 pub enum Statement {
     TypeTop,
     TypeVar {
-        k: u32,
+        k: u64,
     },
     Arrow {
         a: u16,
@@ -48,6 +48,37 @@ pub enum Statement {
         b: u16,
     },
     Rec {
+        b: u16,
+    },
+    TopTerm,
+    TermVar {
+        k: u64,
+    },
+    Fun {
+        a: u16,
+        b: u16,
+    },
+    Appl {
+        b: u16,
+        a: u16,
+    },
+    Fun2 {
+        a: u16,
+        b: u16,
+    },
+    Appl2 {
+        b: u16,
+        a: u16,
+    },
+    FoldTerm {
+        a: u16,
+        b: u16,
+    },
+    UnfoldTerm {
+        b: u16,
+    },
+    RecTerm {
+        a: u16,
         b: u16,
     },
     EnvTerm {
@@ -192,6 +223,56 @@ impl Statement {
             Statement::Rec { b } => Wide {
                 code: code::TYPE_REC,
                 c1: b.into(),
+                ..Wide::default()
+            },
+            Statement::TopTerm => Wide {
+                code: code::TERM_TOP,
+                ..Wide::default()
+            },
+            Statement::TermVar { k } => Wide {
+                code: code::TERM_VAR,
+                c1: k,
+                ..Wide::default()
+            },
+            Statement::Fun { a, b } => Wide {
+                code: code::TERM_FUN,
+                c1: a.into(),
+                c2: b.into(),
+                ..Wide::default()
+            },
+            Statement::Appl { b, a } => Wide {
+                code: code::TERM_APPL,
+                c1: b.into(),
+                c2: a.into(),
+                ..Wide::default()
+            },
+            Statement::Fun2 { a, b } => Wide {
+                code: code::TERM_FUN2,
+                c1: a.into(),
+                c2: b.into(),
+                ..Wide::default()
+            },
+            Statement::Appl2 { b, a } => Wide {
+                code: code::TERM_APPL2,
+                c1: b.into(),
+                c2: a.into(),
+                ..Wide::default()
+            },
+            Statement::FoldTerm { a, b } => Wide {
+                code: code::TERM_FOLD,
+                c1: a.into(),
+                c2: b.into(),
+                ..Wide::default()
+            },
+            Statement::UnfoldTerm { b } => Wide {
+                code: code::TERM_UNFOLD,
+                c1: b.into(),
+                ..Wide::default()
+            },
+            Statement::RecTerm { a, b } => Wide {
+                code: code::TERM_REC,
+                c1: a.into(),
+                c2: b.into(),
                 ..Wide::default()
             },
             Statement::EnvTerm { env, a } => Wide {

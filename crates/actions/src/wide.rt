@@ -1,6 +1,6 @@
 // A line to be: its plain numbers may pass 65,535, and then no line can hold it.
 
-ghost use Rattle.std.specs.Prelude.{◌≡◌};
+ghost use Rattle.std.specs.Prelude.{◌≡◌, ◌≤◌, true};
 ghost use Rattle.judge.specs.Seeking.{same_line};
 
 use lines::Line;
@@ -8,7 +8,7 @@ use lines::Line;
 #[derive(Clone, Copy, Default)]
 pub struct Wide {
     pub code: u8,
-    pub c1: u32,
+    pub c1: u64,
     pub c2: u32,
     pub c3: u16,
     pub c4: u16,
@@ -22,10 +22,11 @@ impl Wide {
 
     // Whether it is this line.
     pub fn is(self, l: Line) -> bool
-        ensures { result ≡ same_line (widened self) l }
+        ensures same { result ≡ same_line (widened self) l }
+        ensures narrow { result ≡ true → self.c1 ≤ 65535 }
     {
         self.code == l.code
-            && self.c1 == u32::from(l.c1)
+            && self.c1 == u64::from(l.c1)
             && self.c2 == u32::from(l.c2)
             && self.c3 == l.c3
             && self.c4 == l.c4

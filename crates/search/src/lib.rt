@@ -7,6 +7,8 @@
 //                   It asks nothing, and answers whatever stands in the store, the tree and the places: what the judge's loop answers
 //                   (search of judge), and where the lines are sound and say what is sought, what seeking it answers. Lines are only added,
 //                   and each premise that waits takes a place.
+// lay           has a line stand that says a statement: the one that stands, or one put at the end
+// Standing      looks lines up by what they say, and by all their numbers
 // Steps         the steps taken, and how many may be
 // Halt          Fails, StepsSpent, GoalsFull, or the JudgeFault of a line that could not be put
 // JudgeFault    the store's fault, or a number that would pass 65,535
@@ -15,7 +17,7 @@
 
 mod fault;
 mod halt;
-mod lay;
+mod laid;
 mod run;
 mod seek;
 mod standing;
@@ -26,8 +28,10 @@ mod work;
 
 pub use fault::JudgeFault;
 pub use halt::Halt;
+pub use laid::lay;
 pub use run::Established;
 pub use seek::search;
+pub use standing::Standing;
 pub use steps::Steps;
 pub use stop::Stop;
 pub use work::Wait;

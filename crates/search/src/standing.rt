@@ -1,12 +1,12 @@
 // The lines that stand, by what they say. Kept as a type of its own: an index on the heap can answer in its place.
 
-ghost use Rattle.std.specs.Prelude.{◌≡◌};
+ghost use Rattle.std.specs.Prelude.{◌≡◌, ◌≤◌, IfSome};
 
 use actions::{Found, Goal, Wide, answer};
 use lines::LineStore;
 
 #[derive(Clone, Copy, Default)]
-pub(crate) struct Standing;
+pub struct Standing;
 
 impl Standing {
     ghost use Rattle.judge.specs.Seeking.{standing, equal_at};
@@ -32,7 +32,8 @@ impl Standing {
 
     // The number of the first line that is this one.
     pub(crate) fn equal<S: LineStore>(&self, store: &S, line: Wide) -> Option<u16>
-        ensures { result ≡ equal_at (widened line) 1 (S.lines store.now) }
+        ensures first { result ≡ equal_at (widened line) 1 (S.lines store.now) }
+        ensures narrow { IfSome result (λ n. line.c1 ≤ 65535) }
     {
         for n in 0..store.count() {
             if line.is(store.get(n + 1).unwrap_or_default()) {

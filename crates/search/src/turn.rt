@@ -11,7 +11,7 @@ ghost use Rattle.search.specs.Goes.{Went, acts};
 
 use crate::fault::JudgeFault;
 use crate::halt::Halt;
-use crate::lay::lay;
+use crate::laid::lay;
 use crate::standing::Standing;
 use crate::steps::Steps;
 use crate::work::{Wait, Work};
