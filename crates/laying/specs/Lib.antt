@@ -1,0 +1,4 @@
+pub mod Nodes
+pub mod Trees
+pub mod Places
+pub mod Goes
