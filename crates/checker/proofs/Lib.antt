@@ -2,6 +2,7 @@ pub mod Columns
 pub mod Dispatch
 pub mod Following
 pub mod Founded
+pub mod Indexing
 pub mod Passing
 pub mod Reading
 pub mod References

@@ -1,10 +1,11 @@
 -- What the calls over a name's bytes say, in the words for names.
-use Rattle.std.proofs.Common.{◌≡◌, ℕ, suc, ◌/◌, ◌%◌, ◌<◌, Bool, true, false, ◌&&◌, ◌||◌, nat_eq, List, [], ◌∷◌, ◌++◌, length, get_or, drop, map, refl, ap, ap₂, ◌∙◌, arith}
+use Rattle.std.proofs.Common.{◌≡◌, ℕ, suc, ◌/◌, ◌%◌, ◌<◌, Bool, true, false, not, cond, ◌&&◌, nat_eq, nat_lt, Option, Some, None, List, [], ◌∷◌, ◌++◌, length, get_or, drop, refl, ap, ap₂, ◌∙◌, arith}
 use Rattle.std.specs.Int.{w16, to_be_bytes}
-use Rattle.std.specs.List.{flat_map, list_all, list_any, prefix_len, starts_with}
+use Rattle.std.specs.List.{flat_map, list_all, position, position_or_len}
 use Rattle.std.proofs.lemmas.Bool.Decides.{nat_tests}
-use Rattle.std.proofs.lemmas.List.{drop-drop}
-use Rattle.rules.specs.Names.{letter_or_digit, padded, spells, spells_one, two_bytes}
+use Rattle.std.proofs.lemmas.List.{drop-drop, drop_all}
+use Rattle.std.specs.Option.{unwrap_or}
+use Rattle.rules.specs.Names.{letter_or_digit, padded, two_bytes}
 
 abbrev all_zero : List ℕ → Bool
 all_zero = list_all (λ b. nat_eq b 0)
@@ -13,22 +14,22 @@ all_zero-padded : (bs : List ℕ) → all_zero bs ≡ padded true bs
 all_zero-padded [] = refl
 all_zero-padded (b ∷ bs) = ap (λ t. nat_eq b 0 && t) (all_zero-padded bs)
 
-pub all_zero-skip : (bs : List ℕ) → list_all (λ b. nat_eq b 0) (drop (prefix_len letter_or_digit bs) bs) ≡ padded false bs
-all_zero-skip [] = refl
-all_zero-skip (b ∷ bs) = grind (arith, nat_tests, all_zero-padded bs, all_zero-skip bs, drop-drop (prefix_len letter_or_digit bs) 1 (b ∷ bs))
+-- the letters and digits in front, and the zeros behind them
+rest_padded : (bs : List ℕ) → all_zero (drop (position_or_len (λ b. not (letter_or_digit b)) bs) bs) ≡ padded false bs
+rest_padded [] = refl
+rest_padded (b ∷ bs) = grind (arith, nat_tests, all_zero-padded bs, rest_padded bs, drop-drop (position_or_len (λ c. not (letter_or_digit c)) bs) 1 (b ∷ bs))
 
-abbrev pub ended : List ℕ → List ℕ
-ended word = word ++ 0 ∷ []
+-- the same from the place that `position` gives
+pub all_zero-from : (bs : List ℕ) (found : Option ℕ) (end : ℕ) → found ≡ position (λ b. not (letter_or_digit b)) bs → end ≡ unwrap_or found (length bs)
+    → all_zero (drop end bs) ≡ padded false bs
+all_zero-from bs found end e f = ap all_zero (go (nat_lt k (length bs)) refl found e end f) ∙ rest_padded bs
+  where
+    k : ℕ
+    k = position_or_len (λ b. not (letter_or_digit b)) bs
 
-starts_with-ended : (bs word : List ℕ) → starts_with nat_eq bs (ended word) ≡ spells word bs
-starts_with-ended [] [] = refl
-starts_with-ended [] (c ∷ word) = refl
-starts_with-ended (b ∷ bs) [] = grind (arith, nat_tests)
-starts_with-ended (b ∷ bs) (c ∷ word) = ap₂ ◌&&◌ (grind (arith, nat_tests)) (starts_with-ended bs word)
-
-pub any-starts_with : (bs : List ℕ) (words : List (List ℕ)) → list_any (starts_with nat_eq bs) (map ended words) ≡ spells_one words bs
-any-starts_with bs [] = refl
-any-starts_with bs (word ∷ words) = ap₂ ◌||◌ (starts_with-ended bs word) (any-starts_with bs words)
+    go : (t : Bool) → nat_lt k (length bs) ≡ t → (o : Option ℕ) → o ≡ cond (nat_lt k (length bs)) (Some k) None → (n : ℕ) → n ≡ unwrap_or o (length bs) → drop n bs ≡ drop k bs
+    go true h o e n f = grind arith
+    go false h o e n f = grind (arith, drop_all k bs, drop_all (length bs) bs)
 
 pub flat_map-two_bytes : (ns : List ℕ) (pairs : List (List ℕ)) → length pairs ≡ length ns
     → ((i : ℕ) → get_or ns i 0 < 65536) → ((i : ℕ) → i < length ns → get_or pairs i [] ≡ to_be_bytes w16 (get_or ns i 0))

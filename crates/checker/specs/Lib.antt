@@ -1,4 +1,5 @@
 pub mod Checked
 pub mod Columns
 pub mod Decide
+pub mod Indexes
 pub mod Seen

@@ -19,6 +19,7 @@ mod copy;
 mod definition;
 mod follow;
 mod formed;
+mod index;
 mod listing;
 mod name;
 mod prefix;

@@ -1,25 +1,11 @@
 // 90: the fourteen bytes of a line spell a name: letters and digits, a letter first, only 0 after its end, and no keyword.
 
-ghost use Rattle.std.specs.Prelude.{◌≡◌, false};
+ghost use Rattle.std.specs.Prelude.{◌≡◌, ℕ, List, ◌∷◌, false, nat_eq};
+ghost use Rattle.std.specs.List.{list_any, starts_with};
 ghost use Rattle.checker.specs.Decide.{name};
 ghost use Rattle.rules.specs.Names.{letter, letter_or_digit, padded, spells_one, keywords, starts_with_letter, is_name};
 
 use lines::Line;
-
-// Each with the 0 that ends it.
-const KEYWORDS: [&[u8]; 11] = [
-    b"All\0",
-    b"Let\0",
-    b"Rec\0",
-    b"Top\0",
-    b"fold\0",
-    b"fun\0",
-    b"judge\0",
-    b"let\0",
-    b"rec\0",
-    b"top\0",
-    b"unfold\0",
-];
 
 fn letter(b: u8) -> bool
     ensures { result ≡ letter b }
@@ -37,16 +23,39 @@ fn letter_or_digit(b: u8) -> bool
 fn padded(bytes: &[u8]) -> bool
     ensures { result ≡ padded false bytes.now }
 {
-    bytes
+    let end = bytes
         .iter()
-        .skip_while(|&&b| letter_or_digit(b))
-        .all(|&b| b == 0)
+        .position(|&b| !letter_or_digit(b))
+        .unwrap_or(bytes.len());
+    bytes[end..].iter().all(|&b| b == 0)
+}
+
+// The keywords that begin with this letter, each with the 0 that ends it: most names begin with another.
+fn keywords(first: u8) -> &'static [&'static [u8]]
+    ensures { (bs : List ℕ) → list_any (λ word. starts_with nat_eq (first ∷ bs) word.now) result.now ≡ spells_one keywords (first ∷ bs) }
+{
+    match first {
+        b'A' => &[b"All\0"],
+        b'L' => &[b"Let\0"],
+        b'R' => &[b"Rec\0"],
+        b'T' => &[b"Top\0"],
+        b'f' => &[b"fold\0", b"fun\0"],
+        b'j' => &[b"judge\0"],
+        b'l' => &[b"let\0"],
+        b'r' => &[b"rec\0"],
+        b't' => &[b"top\0"],
+        b'u' => &[b"unfold\0"],
+        _ => &[],
+    }
 }
 
 fn keyword(bytes: &[u8]) -> bool
     ensures { result ≡ spells_one keywords bytes.now }
 {
-    KEYWORDS.iter().any(|word| bytes.starts_with(word))
+    let Some(&first) = bytes.first() else {
+        return false;
+    };
+    keywords(first).iter().any(|word| bytes.starts_with(word))
 }
 
 fn starts_with_letter(bytes: &[u8]) -> bool

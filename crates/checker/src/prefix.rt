@@ -1,6 +1,6 @@
 // The first lines of a store, those that stand before the line that is tested, and what they say: the tests that the rules share.
 
-ghost use Rattle.std.specs.Prelude.{◌≡◌, ◌≤◌, length, take, ◌↔◌, IsTrue};
+ghost use Rattle.std.specs.Prelude.{◌≡◌, ◌+◌, ◌≤◌, length, take, ◌↔◌, IsTrue, MatchOption};
 ghost use Rattle.std.specs.List.{Contains};
 ghost use Rattle.checker.specs.Decide.{at, pair, triple, judged, raises, puts, bound_is, typing_is, is_env, is_type, is_sub, has_type, binds_term, binds_type};
 
@@ -42,6 +42,13 @@ impl<'a, S: LineStore> Prefix<'a, S> {
             return Line::default();
         }
         self.store.get(m).unwrap_or_default()
+    }
+
+    // The number of the line after them; none after line 65,535.
+    pub(crate) fn next(&self) -> Option<u16>
+        ensures { MatchOption result (length self.now ≡ 65535) (λ number. number ≡ length self.now + 1) }
+    {
+        self.len.checked_add(1)
     }
 
     // Whether l is one of them.

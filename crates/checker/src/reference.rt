@@ -12,6 +12,9 @@ use lines::{Line, LineStore, code};
 fn fits<S: LineStore>(before: &Prefix<S>, kind: Kind, n: u16) -> bool
     ensures { result ≡ fits (at before.now) kind n }
 {
+    if kind == Kind::Number {
+        return true;
+    }
     let code = before.line(n).code;
     match kind {
         Kind::Number => true,

@@ -1,18 +1,18 @@
-// Cause 4: whether an equal line stands earlier. A set on the heap tells; where memory is refused, the lines are read again, with the same answer.
+// Cause 4: whether an equal line stands earlier. An index on the heap tells; where memory is refused, the lines are read again, with the same answer.
 
 ghost use Rattle.std.specs.Prelude.{◌≡◌, [], ◌∷◌, ◌++◌, false, ◌↔◌, IsTrue};
 ghost use Rattle.std.specs.List.{Contains};
 ghost use Rattle.checker.specs.Seen.{Holds};
 
+use crate::index::Index;
 use crate::prefix::Prefix;
 use lines::{Line, LineStore};
 use std::alloc::Global;
-use std::collections::HashSet;
 
 // The lines before a line, or None where memory was refused.
 #[derive(Drop)]
 pub(crate) struct Seen {
-    lines: Option<HashSet<Line>>,
+    index: Option<Index>,
 }
 
 impl Seen {
@@ -21,7 +21,7 @@ impl Seen {
         ensures { Holds result [] }
     {
         Seen {
-            lines: HashSet::with_capacity(heap, room.into()).ok(),
+            index: Index::new(heap, room).ok(),
         }
     }
 
@@ -32,15 +32,17 @@ impl Seen {
         ensures repeats { IsTrue result ↔ Contains before.now l }
         ensures seen { result ≡ false → Holds self.new (before.now ++ l ∷ []) }
     {
-        let Some(lines) = &mut self.lines else {
+        let Some(index) = &mut self.index else {
             return before.contains(l);
         };
-        match lines.insert(l) {
-            Ok(added) => !added,
-            Err(_) => {
-                self.lines = None;
-                false
-            }
+        let slot = index.slot(l);
+        if index.holds(before, slot, l) {
+            return true;
         }
+        match before.next() {
+            Some(number) if index.add(slot, number, l).is_ok() => {}
+            _ => self.index = None,
+        }
+        false
     }
 }
