@@ -12,7 +12,10 @@ use tables::LineTable;
 pub(crate) fn copied<S: LineStore>(store: &S, heap: Global) -> Result<Vec<Line>, AllocError>
     ensures { IfOk result (λ v. v.items ≡ S.lines store.now) }
 {
-    store.iter().collect(heap)
+    // Room for all is asked for first: where there is none, `collect` would try smaller blocks, and copy half the lines into them.
+    let mut all = Vec::with_capacity(heap, store.count().into())?;
+    all.extend(store.iter())?;
+    Ok(all)
 }
 
 pub(crate) fn check_records<Q: Quantifier>(
